@@ -1,13 +1,15 @@
 """How much memory is asked for where texts that are no build come for a unit of which a long build is known: nothing of that is
 spelled for a text that doesn't begin as it does, or is shorter, and else hardly more than came. The same texts come for a unit of
-which nothing is known, which shows what reading them takes."""
+which nothing is known, which shows what reading them takes. That needs the program `probes` as it is built, which
+`tools/prove probes` builds: without it this topic is skipped."""
 import hashlib
 import os
 import struct
 import subprocess
 import tempfile
 
-from topics.tally import PROBES, built_shim, contents, fallen
+from topics.driver import PROBES, is_built
+from topics.tally import built_shim, contents, fallen
 
 # the unit whose build is known, and one whose isn't, each of one package, with its name
 KNOWN, UNKNOWN = ("a/b", "b-1.0"), ("c/d", "d-1.0")
@@ -96,7 +98,7 @@ def add(tally, name, problem, *given):
 
 def run(tally):
     with tempfile.TemporaryDirectory() as folder:
-        if built_shim(tally, folder, "refuse"):
+        if is_built(tally, "asked") and built_shim(tally, folder, "refuse"):
             for name, (text_of, times, may_be_spelled) in TEXTS.items():
                 add(tally, name, problem, folder, text_of, times, may_be_spelled)
             add(tally, "itself", problem_again, folder)

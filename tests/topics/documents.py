@@ -1,13 +1,23 @@
-"""The manual pages, the width of lines, how much a reader has to believe, the one order of crates wherever some of them stand in a
-row, and what documents count and name."""
+"""The manual pages, the width of lines, how much a reader has to believe, how much the gate has to do, the one order of crates wherever
+some of them stand in a row, and what documents count and name."""
 import glob
 import os
 import re
 import shutil
 import subprocess
+import sys
 
 from topics.tally import TESTS, TOP, contents
 
+sys.path.insert(0, f"{TOP}/tools")
+
+import tried
+
+# How much the gate may have to do: the most crates of crates.txt, the most ways through it, and the most wrong bodies that it tries.
+# A way leads from a crate down to one that it stands on, from name to name in the lines of crates.txt; each crate is one to itself.
+MOST_CRATES = 70
+MOST_WAYS = 500_000
+MOST_WRONG_BODIES = 130
 WIDEST = 100
 # the most columns of a line of a document
 WIDEST_TEXT = 140
@@ -20,7 +30,7 @@ FRONT_PAGE = 120
 def manual(tally):
     """The manual pages, where the machine has mandoc."""
     if not shutil.which("mandoc"):
-        print("tests/run: no mandoc here: the manual pages are not looked at", flush=True)
+        tally.skip("the manual pages", "there is no mandoc here")
         return
     for page in sorted(os.listdir(f"{TOP}/man")):
         done = subprocess.run(["mandoc", "-Tlint", f"{TOP}/man/{page}"], capture_output=True, text=True)
@@ -202,6 +212,28 @@ def one_order(tally):
     tally.add("docs/DEFINITIONS.md, its order", out_of_order(headings("DEFINITIONS.md", r"^## .*?\(`crates/(\w+)/"), order))
 
 
+def cost_of_the_gate(tally):
+    """The crates, the ways through crates.txt and the wrong bodies of the gate are no more than they may be."""
+    named, ways = crates(), {}
+    for crate in named:
+        ways[crate] = 1 + sum(ways[it] for it in named[crate])
+    edits = len(glob.glob(f"{TOP}/crates/*/must-fail/*.edit"))
+    print(f"tests/run: {len(named)} crates, {sum(ways.values()):,} ways through crates.txt, {edits} wrong bodies in the gate", flush=True)
+    for name, count, most in (("its crates", len(named), MOST_CRATES), ("the ways through it", sum(ways.values()), MOST_WAYS - 1)):
+        tally.add(f"crates.txt, {name}", f"{count:,}, and at most {most:,} are wanted" if count > most else "")
+    tally.add("crates/*/must-fail", f"{edits} wrong bodies, and at most {MOST_WRONG_BODIES} are wanted" if edits > MOST_WRONG_BODIES else "")
+
+
+def tried_wrong_bodies(tally):
+    """Tells the crates whose edits in tests/wrong-bodies were not tried as they and the sources stand. That is no failure: a change of a
+    crate makes it so for all above. Each line of what was tried is of a crate that has edits."""
+    strangers = sorted(set(tried.read()) - set(tried.crates()))
+    tally.add("tests/wrong-bodies/tried", f"{strangers} have no edits there" if strangers else "")
+    untried, all_crates = tried.untried(), tried.crates()
+    told = f": {', '.join(untried)} (`tests/try-wrong-bodies --untried`)" if untried else ""
+    print(f"tests/run: the wrong bodies of {len(untried)} of {len(all_crates)} crates were not tried as they stand{told}", flush=True)
+
+
 def below(crate, named):
     """The crate, and all that it stands on."""
     found, left = set(), [crate]
@@ -229,10 +261,10 @@ def counted(tally):
     tally.add("README.md, its length", "" if lines <= FRONT_PAGE else f"{lines} lines, and more than {FRONT_PAGE} aren't read")
 
 
-def cited(crate):
+def cited(crate, where=f"{TOP}/crates"):
     """What files of a crate cite of other crates' proofs and of their definitions for bodies: the file, the crate, and the module there."""
-    for path in glob.glob(f"{TOP}/crates/{crate}/**/*", recursive=True):
-        if path.endswith((".rt", ".antt")) and "/out/" not in path:
+    for path in glob.glob(f"{where}/{crate}/**/*", recursive=True):
+        if path.endswith((".rt", ".antt", ".rs", ".proof")) and "/out/" not in path:
             for other, module in set(re.findall(r"\bRattle\.(\w+)\.(proofs\.\w+|specs\.inside)\b", contents(path).decode())):
                 if other != crate:
                     yield path, other, module
@@ -240,9 +272,10 @@ def cited(crate):
 
 def leaning(tally):
     """Crates cite no definitions of others that only bodies and proofs there need, and of their lemmas those that are public: these are,
-    and no others. docs/MAP.md says how many that are, and in how many pairs of crates."""
+    and no others; the drivers of tests/drivers count, too. docs/MAP.md says how many that are, and in how many pairs of crates."""
     named = crates()
     found = [(crate, *it) for crate in named for it in cited(crate) if it[1] in named]
+    by_drivers = [(other, module) for driver in os.listdir(f"{TESTS}/drivers") for _, other, module in cited(driver, f"{TESTS}/drivers")]
     inside = sorted({os.path.relpath(path, TOP) for _, path, _, module in found if module == "specs.inside"})
     tally.add("specs/inside", f"{inside} cite what stands there in another crate" if inside else "")
     files = public = 0
@@ -250,7 +283,7 @@ def leaning(tally):
         path = f"{TOP}/crates/{crate}/proofs/Lib.antt"
         mods = re.findall(r"^(pub )?mod (\w+)$", contents(path).decode(), re.MULTILINE) if os.path.exists(path) else []
         open_to_all = {mod for pub, mod in mods if pub}
-        wanted = {module.removeprefix("proofs.") for _, _, other, module in found if other == crate and module != "specs.inside"}
+        wanted = {module.removeprefix("proofs.") for *_, other, module in [*found, *by_drivers] if other == crate and module != "specs.inside"}
         files, public = files + len(mods), public + len(open_to_all)
         tally.add(f"crates/{crate}/proofs/Lib.antt", f"{sorted(open_to_all ^ wanted)} are public and cited by no other crate" if open_to_all != wanted else "")
     pairs = {(crate, other) for crate, _, other, module in found if module != "specs.inside"}
@@ -279,6 +312,8 @@ def run(tally):
     to_believe(tally)
     wrong_bodies(tally)
     one_order(tally)
+    cost_of_the_gate(tally)
+    tried_wrong_bodies(tally)
     rows_of_crates(tally)
     files_of_crates(tally)
     promises(tally)

@@ -1,12 +1,14 @@
 """Members, nodes and worlds whose memory runs out: each allocation refused in turn of what `probes` answers to the files of
 tests/members/ and to some stored traces. Where that falls into a step, the program gives the same input again, and has to go on as
-if nothing had been."""
+if nothing had been. That needs the program as it is built: `tools/prove probes` builds it, for who changes crate `member`, `node` or
+`running`, or one below them; without it this topic is skipped."""
 import os
 import subprocess
 import tempfile
 
+from topics.driver import PROBES, is_built
 from topics.memory import refusing
-from topics.tally import PROBES, TESTS, TOP, built_shim, contents, text_difference
+from topics.tally import TESTS, TOP, built_shim, contents, text_difference
 
 # what members and nodes are asked, a file each, as `probes` reads it
 ASKED = f"{TESTS}/members"
@@ -76,7 +78,7 @@ def refused_in_turn(tally, folder, name, text, by_hand):
 
 def run_named(tally, chosen):
     with tempfile.TemporaryDirectory() as folder:
-        if built_shim(tally, folder, "refuse"):
+        if is_built(tally, "members") and built_shim(tally, folder, "refuse"):
             for name in chosen:
                 refused_in_turn(tally, folder, f"members/{name}", *asked(name))
 

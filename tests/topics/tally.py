@@ -1,4 +1,4 @@
-"""What the topics share: where things are, how the program is run, and what passed and failed."""
+"""What the topics share: where things are, how the program is run, and what passed, failed and was skipped."""
 import difflib
 import os
 import re
@@ -10,8 +10,6 @@ TOP = os.path.dirname(os.path.dirname(os.path.dirname(os.path.abspath(__file__))
 TESTS = f"{TOP}/tests"
 EXAMPLES = f"{TOP}/examples"
 PROGRAM = f"{TOP}/crates/dpbr/out/dpbr"
-# answers rows of stored cases: behind a line `== TOPIC` those of this topic
-PROBES = f"{TOP}/crates/probes/out/probes"
 
 
 # how much of a difference is shown
@@ -19,13 +17,20 @@ MOST_LINES, MOST_COLUMNS = 40, 200
 
 
 class Tally:
-    """Counts what passed, and says what failed."""
+    """Counts what passed, and says what failed and what was skipped."""
 
     def __init__(self):
         self.passed = 0
         self.failed = 0
         # the names of those that failed
         self.names = []
+        # what was not run for want of a tool or a program, and how that is had
+        self.skipped = []
+
+    def skip(self, name, lacking):
+        """Notes a part that can't be run here, with what it lacks and how that is had. The last lines of all tests say so once more."""
+        self.skipped.append(f"{name}: {lacking}")
+        print(f"tests/run: skipped: {name}: {lacking}", flush=True)
 
     def add(self, name, problem):
         """One more test, which passed where there is no problem to tell."""

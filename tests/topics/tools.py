@@ -13,10 +13,12 @@ import tempfile
 import time
 import xml.dom.minidom
 
-from topics import packages
-from topics.tally import EXAMPLES, PROBES, TESTS, TOP, Answer, answer, contents, difference
+from topics import driver, packages
+from topics.tally import EXAMPLES, TESTS, TOP, Answer, answer, contents, difference
 
 ROW, MOST_HEIGHT = 24, 1700
+# of so many packages' builds pictures are drawn that fold their events
+FOLDED = (84, 1667)
 SIGNALS = (signal.SIGHUP, signal.SIGINT, signal.SIGTERM)
 # how large a build may be, and with --digests where enough files could give way
 MOST = packages.MOST_OF_A_BUILD
@@ -24,10 +26,23 @@ MOST_SPARED = MOST - 1_048_576
 UNIT = "a/b,-docs.FULLPKGNAME=b-docs-1\na/b,-main.FULLPKGNAME=b-1\n"
 
 
+def asked_of(listing, trace, is_single):
+    """What draw-trace asks the driver `probes` about a trace over a listing."""
+    return f"== worlds\n{'singles' if is_single else 'steps'} {listing.hex()} {trace.hex()}\n".encode()
+
+
 def drawn(*words):
-    """What draw-trace answers by the program that it asks, which has to be built: it looks at its sources else, for minutes each time."""
-    os.stat(os.environ.get("PROBES", PROBES))
-    return subprocess.run([f"{TOP}/tools/draw-trace", *words], capture_output=True, timeout=120)
+    """What draw-trace prints, in the place of whose program stands what the driver answers: so its sources are compiled once for all
+    pictures, if it isn't built."""
+    asked = asked_of(*map(contents, words[-2:]), "--single" in words)
+    with tempfile.TemporaryDirectory() as folder:
+        program = f"{folder}/probes"
+        with open(f"{program}.answer", "wb") as file:
+            file.write(driver.answer(asked))
+        with open(program, "w") as file:
+            file.write('#!/bin/sh\ncat > /dev/null\nexec cat "$0.answer"\n')
+        os.chmod(program, 0o755)
+        return subprocess.run([f"{TOP}/tools/draw-trace", *words], capture_output=True, timeout=120, env={**os.environ, "PROBES": program})
 
 
 def life(n):
@@ -110,6 +125,18 @@ def covered(svg):
     return sorted(lies), len(places)
 
 
+def drawings():
+    """The listings and traces of which pictures are drawn, and whether each path is built by itself."""
+    yield contents(f"{EXAMPLES}/listing"), contents(f"{EXAMPLES}/trace"), False
+    for listing, trace in (builds(1, 10), *(builds(count, 12 * count) for count in FOLDED)):
+        yield listing.encode(), json.dumps(trace).encode(), False
+    for is_single in (False, True):
+        yield UNIT.encode(), json.dumps(lone()).encode(), is_single
+
+
+driver.ask(lambda: [asked_of(*drawing) for drawing in drawings()])
+
+
 def pictures(tally):
     """The README's picture is the example's, shows the promise that reports a vote, and has its words where nothing else is. Ten
     events have a row each, and a thousand, or twenty thousand, are folded into a picture of some rows."""
@@ -128,7 +155,7 @@ def pictures(tally):
         # six notes, and the legend's; above and below ten rows stand less than six rows of words
         told = (rows, agreed(svg), notes, " events<" in svg, 10 * ROW < height < 16 * ROW)
         tally.add(name, "" if told == (10, 1, 7, False, True) else f"{told} in {height} pixels")
-    for count in (84, 1667):
+    for count in FOLDED:
         folded(tally, count)
     for words, wanted in ((), (0, 1)), (("--single",), (1, 0)):
         name = " ".join(["draw-trace", *words, "of one package of two"])

@@ -1,12 +1,14 @@
 """Stored cases of `dpbr run`, and traces and BUILDS whose memory runs out: each allocation of some rows on traces
-refused in turn. The answer is then the right one, or that memory ran out, or the program ends."""
+refused in turn. The answer is then the right one, or that memory ran out, or the program ends. These rows need the program `probes`
+as it is built: `tools/prove probes` builds it, for who changes crate `traces` or one below it; without it they are skipped."""
 import os
 import subprocess
 import tempfile
 
+from topics.driver import PROBES, is_built
 from topics.memory import refusing
 from topics.programs import stored_cases
-from topics.tally import PROBES, built_shim, text_difference
+from topics.tally import built_shim, text_difference
 
 # The folders of stored cases of `dpbr run`: those whose builds go out in several pieces stand apart.
 STORED = ("traces", "pieces")
@@ -55,6 +57,6 @@ def refused_in_turn(tally, folder, name, row):
 def run(tally):
     stored_cases(tally, STORED)
     with tempfile.TemporaryDirectory() as folder:
-        if built_shim(tally, folder, "refuse"):
+        if is_built(tally, "traces, want of memory") and built_shim(tally, folder, "refuse"):
             for name, row in ROWS.items():
                 refused_in_turn(tally, folder, name, row)

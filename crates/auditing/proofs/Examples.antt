@@ -1,5 +1,5 @@
--- Verdicts on lists of packages of a small tree: the first package is built on the second, which runs on the third; the
--- last is marked.
+-- Verdicts on lists of packages of a small tree: the first package is built on the second, which
+-- runs on the third; the last one is marked as ignored.
 use Rattle.std.proofs.Common.{◌≡◌, ◌≢◌, ◌<◌, ◌≤◌, ◌∙◌, ℕ, zero, suc, codes, length, refl, sym, ap, subst, replicate, List, [], ◌∷◌, true, false, arith}
 use Rattle.std.specs.Prelude.{AllPairs, Any, Contains}
 use Rattle.std.specs.Str.{bytes_eq}
@@ -175,7 +175,7 @@ example_yes = extended tree (q_entry ∷ []) (p_entry (on_q 1 ∷ [])) q_allowed
 example_unlisted : IsVerdict tree (unlisted ∷ []) (No 1 Unlisted)
 example_unlisted = (omega arith, record { entry = unlisted; stands = refl; before = none_allowed; reason_is = refl })
 
--- its name is another one, too
+-- its name differs, too
 example_ignored : IsVerdict tree (s_entry ∷ []) (No 1 Ignored)
 example_ignored = (omega arith, record { entry = s_entry; stands = refl; before = none_allowed; reason_is = (3, refl, left_out) })
 

@@ -11,7 +11,7 @@ use Rattle.engine.proofs.Once.{one_unit}
 use Rattle.engine.proofs.WellMade.{unit_unless}
 use Rattle.auditing.specs.Allowed.{AreItsDependencies, AreThese}
 
--- its number tells the unit
+-- its number gives the unit
 pub unit_there : (d : Division) (tree : Tree) (p k : ℕ) → d.tree ≡ tree → IsDivision d → p < length tree
     → ¬ IsIgnored tree p → number_of d p ≡ Some k → IsUnitOf tree p (unit_at d k)
 unit_there d tree p k of is lt free e =

@@ -1,4 +1,4 @@
--- The first reason, where all but the dependencies is as it has to be.
+-- The first reason, if everything except the dependencies is right.
 use Rattle.std.proofs.Common.{◌≡◌, ℕ, List, Option, Result, None, Some, Ok, Err, sym, subst, inl, inr}
 use Rattle.std.specs.Prelude.{IfOk, MatchOption}
 use Rattle.claims.specs.declared.deps.Dep.{Dep}

@@ -12,7 +12,7 @@ use Rattle.faults.proofs.Ascending.{Rising}
 use Rattle.faults.proofs.Members.{member_cases, no_members}
 use Rattle.claims.specs.Deps.{is_ascending}
 
--- a text below all of these is below each
+-- a text below all of these is below each of them
 below_each : (t : Text) (ts : List Text) → list_all (λ u. is_lt (text_cmp t u)) ts ≡ true → (u : Text) → Contains ts u → text_cmp t u ≡ Less
 below_each t [] all u member = absurd (no_members u member)
 below_each t (w ∷ ts) all u member =

@@ -16,7 +16,7 @@ pub one_of_signature : (earlier : List Entry) (d : Dep) (e : Entry) → IsOnlyOn
 one_of_signature earlier d e one (k, other, within, here, signature) =
     subst (IsSignatureOf d) (one.only other (k, within, here) signature.path) signature
 
--- a path that is new is in no signature
+-- a path that is new isn't in any signature
 pub no_signature : (earlier : List Entry) (d : Dep) → IsNew earlier d.path → ¬ Any (IsSignatureOf d) earlier
 no_signature earlier d new (k, other, within, here, signature) =
     let path_of : Entry → Text = λ x. x.path in
@@ -28,12 +28,12 @@ not_new earlier path e one new =
     let path_of : Entry → Text = λ x. x.path in
     new one.among.0 e one.among.1 (ap path_of one.among.2 ∙ one.has)
 
--- what holds where something was found
+-- what holds if something was found
 pub some_part : {A : Type 0} (o : Option A) (P : Type 0) (Q : A → Type 0) → MatchOption o P Q → is_some o ≡ true → (x : A) × Q x
 some_part None P Q h e = absurd (true≢false (sym e))
 some_part (Some x) P Q h e = (x, h)
 
--- what holds where nothing was found
+-- what holds if nothing was found
 pub none_part : {A : Type 0} (o : Option A) (P : Type 0) (Q : A → Type 0) → MatchOption o P Q → is_some o ≡ false → P
 none_part None P Q h e = h
 none_part (Some x) P Q h e = absurd (true≢false e)

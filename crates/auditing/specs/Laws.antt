@@ -13,7 +13,7 @@ use Rattle.auditing.specs.declared.verdict.Verdict.{Verdict}
 abbrev pub EmptyIsAllowed : Type 0
 EmptyIsAllowed = (tree : Tree) → IsAllowed tree []
 
--- a list with one more entry is allowed exactly where the list is and the entry may follow it
+-- a list with one more entry is allowed if and only if the list is and the entry may follow it
 abbrev pub ExtendedIsAllowed : Type 0
 ExtendedIsAllowed =
     (tree : Tree) (list : List Entry) (entry : Entry)
@@ -25,7 +25,7 @@ OnlyOneVerdict =
     (tree : Tree) (list : List Entry) (u v : Verdict) → IsVerdict tree list u
     → IsVerdict tree list v → u ≡ v
 
--- an entry may follow if it fits the tree, is new, and each of its dependencies stood earlier
+-- an entry may follow if it fits the tree, is new, and each of its dependencies is an earlier entry
 abbrev pub FittingMayFollow : Type 0
 FittingMayFollow =
     (tree : Tree) (earlier : List Entry) (entry : Entry) (run : List Text)

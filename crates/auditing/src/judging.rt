@@ -17,7 +17,7 @@ pub fn audit(alloc: Global, tree: &Tree, list: &[Entry]) -> Result<Verdict, Memo
     audit_entries(alloc, &mut standing, list)
 }
 
-/// The same, where nothing of the list is read yet.
+/// As `audit`, with nothing processed yet.
 fn audit_entries(
     alloc: Global,
     standing: &mut Standing<'_>,

@@ -1,5 +1,5 @@
-//! The audit of a list of packages: whether it was built in order, each package against what stood
-//! in the list before it.
+//! The audit of a list of packages: whether it was built in order, each package on earlier ones in
+//! the list.
 #![tactic(auto)]
 
 mod dependencies;

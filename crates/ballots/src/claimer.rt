@@ -20,27 +20,26 @@ ghost use Rattle.ballots.specs.Support.{IsMember};
 
 use crate::value::copy_of_vote;
 use crate::{Tally, Value, Weights};
-use agreement::keep;
-use claims::Claim;
+use claims::{Claim, keep};
 use faults::Memory;
 use package_record::Build;
 
-/// An open claim of one unit, and how far it is. What members weigh stays with it.
+/// An open claim of one unit, with its progress and the members' weights.
 #[derive(Drop)]
 pub enum Claimer<V = Build> {
-    /// Promises come in, from those in `promised` so far. Of the votes they report, the one under
-    /// the greatest claim is kept, and of equal claims the first.
+    /// Collects promises; those in `promised` have arrived. Of the reported votes, the one under
+    /// the greatest claim is kept, and among equal claims the first.
     Gathering {
         claim: Claim,
         promised: Tally,
         report: Option<(Claim, V)>,
     },
-    /// A majority promised and reported nothing, so that a value is to be built.
+    /// A majority promised and reported no vote, so a value is to be built.
     Building {
         claim: Claim,
         weights: Weights,
     },
-    /// Votes for the proposal come in, from those in `voted` so far.
+    /// Collects votes for the proposal; those in `voted` have arrived.
     Voting {
         claim: Claim,
         value: V,
@@ -48,8 +47,8 @@ pub enum Claimer<V = Build> {
     },
 }
 
-/// What a step leads to, and what it changes of the open claim. The two are apart, so that what is
-/// noted can be handed to a log before the change is taken.
+/// What follows from a step, and its change of the open claim. The two are separate, so that a note
+/// can be written to a log before the change is made.
 #[derive(Drop)]
 pub struct ClaimerStep<V = Build> {
     pub next: Next<V>,
@@ -59,43 +58,42 @@ pub struct ClaimerStep<V = Build> {
 /// What follows a step.
 #[derive(Drop)]
 pub enum Next<V = Build> {
-    /// Nothing is noted, said or built.
+    /// Nothing is noted, sent or built.
     Nothing,
     /// A value is to be built.
     Build,
-    /// The value goes to all as the claim's proposal.
+    /// The value is sent to all as the claim's proposal.
     Propose(Claim, V),
-    /// `noted` is noted, and `sent` goes to all others as agreed. They are the value of the
-    /// claimer, which is held then, and the claim is done with.
+    /// `noted` is noted, and `sent` is sent to all others as agreed. Both are the claimer's value,
+    /// which is then held, and the claim ends.
     Hold { noted: V, sent: V },
 }
 
-/// What a step changes of the open claim. It holds all that the change needs, so that taking it
-/// needs no memory.
+/// A step's change of the open claim. It has all that it needs, so that making it does not
+/// allocate.
 #[derive(Drop)]
 pub enum ClaimerChange<V = Build> {
-    /// The message is of another claim, or comes too late: nothing changes.
+    /// The message is of another claim, or is too late: nothing changes.
     Stays,
-    /// A member joined: this is the tally now, and of the reports that came, if any did, the one
-    /// that is kept.
+    /// A member joined; this is the new tally, and the greatest report so far, if there is one.
     Joins {
         tally: Tally,
         report: Option<(Claim, V)>,
     },
-    /// A majority promised and reported nothing.
+    /// A majority promised and reported no vote.
     Builds,
     /// A majority promised and reported this value, which is proposed.
     Proposes {
         value: V,
         voted: Tally,
     },
-    /// A majority voted, and the claim is done with.
+    /// A majority voted, and the claim ends.
     Ends,
 }
 
 impl<V: Value> Claimer<V> {
-    /// The step for a promise of the member `from`, which reports its last vote. It fails only for
-    /// want of memory.
+    /// The step on a promise of the member `from`, which reports its last vote. Fails only if
+    /// memory runs out.
     pub fn promise(
         &self,
         from: u8,
@@ -121,7 +119,7 @@ impl<V: Value> Claimer<V> {
         }
     }
 
-    /// The step for a vote of the member `from`. It fails only for want of memory.
+    /// The step on a vote of the member `from`. Fails only if memory runs out.
     pub fn vote(&self, from: u8, claim: Claim) -> Result<ClaimerStep<V>, Memory>
         requires { IsMember from }
         ensures { IfOk result (IsStepOnVote self.now from claim) }
@@ -144,8 +142,8 @@ impl<V: Value> Claimer<V> {
 }
 
 impl<V: Value> Claimer<V> {
-    /// Takes what a step changes. It moves what that holds, and takes no memory. Where the claim is
-    /// done with the claimer stays as it was, and is to be dropped, or taken apart for its value.
+    /// Makes the change of a step. It moves the change's contents, and does not allocate. If the
+    /// claim ends, the claimer stays as it was, and is to be dropped, or taken apart for its value.
     pub fn apply(&mut self, change: ClaimerChange<V>)
         ensures { self.new ≡ claimer_then self.old change }
     {
@@ -179,7 +177,7 @@ impl<V: Value> Claimer<V> {
         }
     }
 
-    /// What members weigh.
+    /// The members' weights.
     pub fn weights(&self) -> &Weights
         ensures { result.now ≡ weights_of self.now }
     {
@@ -219,7 +217,7 @@ impl<V: Value> ClaimerStep<V> {
         }
     }
 
-    /// A member joined, and is not the last of a majority.
+    /// A member joined, without making a majority.
     fn joining(tally: Tally, report: Option<(Claim, V)>) -> ClaimerStep<V>
         ensures { result ≡ joining_step tally report }
     {
@@ -230,7 +228,7 @@ impl<V: Value> ClaimerStep<V> {
     }
 }
 
-/// The step once the promise is counted, where this is the greatest report.
+/// The step after the promise is counted; this is the greatest report so far.
 fn gathering<V: Value>(
     claim: Claim,
     tally: Tally,
@@ -245,7 +243,7 @@ fn gathering<V: Value>(
     Ok(ClaimerStep::joining(tally, report))
 }
 
-/// The step once a majority promised: what was reported is proposed, and else a value is built.
+/// The step after a majority promised: the reported value is proposed, or else a value is built.
 fn promised<V: Value>(
     claim: Claim,
     tally: Tally,
@@ -272,7 +270,7 @@ fn promised<V: Value>(
     }
 }
 
-/// The step once the vote is counted: at a majority the value is held.
+/// The step after the vote is counted: with a majority the value is held.
 fn voting<V: Value>(tally: Tally, value: &V) -> Result<ClaimerStep<V>, Memory>
     ensures { IfOk result (λ step. step ≡ voting_step tally value.now) }
 {

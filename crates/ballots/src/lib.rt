@@ -1,8 +1,8 @@
-//! The ballots of one unit: what a voter answers to offers and proposals, and what a claimer does
-//! with the answers.
+//! The ballots of one unit: how a voter answers offers and proposals, and what a claimer does with
+//! the answers.
 //!
-//! They are generic in the value that is agreed on. No rule is stated here a second time: contracts
-//! say that a step is the one that a member of the agreement theory takes.
+//! They are generic in the value that is agreed. The rules are not repeated here: contracts say
+//! that a step is the one that a member of the agreement theory takes.
 #![tactic(auto)]
 
 mod claimer;

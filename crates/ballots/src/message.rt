@@ -1,22 +1,21 @@
-//! What members send each other about a unit, and what they note.
+//! The messages that members send each other about a unit, and their notes.
 ghost use Rattle.std.specs.Prelude.{◌≡◌, IfOk};
 
 use crate::Value;
 use crate::value::copy_of_vote;
 use claims::Claim;
 use faults::Memory;
-use package_record::Build;
-use pkgpath::PkgPath;
+use package_record::{Build, PkgPath};
 
-/// What a message says of its unit.
+/// The contents of a message about its unit.
 #[derive(Drop)]
 pub enum Body<V = Build> {
-    /// The claim's member asks for promises.
+    /// The claim's member asks for a promise.
     Offer(Claim),
-    /// The sender votes for no claim below this one any more. With it goes its last vote, if it has
+    /// The sender will vote for no claim below this one. The message has its last vote, if it has
     /// cast one.
     Promise(Claim, Option<(Claim, V)>),
-    /// The claim's member asks for votes for the value.
+    /// The claim's member asks for a vote for the value.
     Propose(Claim, V),
     /// The sender votes for the claim's proposal.
     Vote(Claim),
@@ -24,24 +23,24 @@ pub enum Body<V = Build> {
     Agreed(V),
     /// The sender asks for the agreed value.
     Ask,
-    /// The claim that is turned down, and the one that the sender promised.
+    /// The claim that the sender rejects, and the one that it has promised.
     Nay(Claim, Claim),
 }
 
-/// What a member tells another about a unit.
+/// A message of a member to another about a unit.
 #[derive(Drop)]
 pub struct Message<V = Build> {
-    /// The number of the member that sends it.
+    /// The number of the sender.
     pub sender: u8,
     /// The digest of the sender's tree.
     pub tree: [u8; 32],
-    /// The name of the unit that it is about.
+    /// The name of the unit.
     pub path: PkgPath,
-    /// What it says of that unit.
+    /// The contents about that unit.
     pub body: Body<V>,
 }
 
-/// What a member has to know of a unit after a stop.
+/// What a member still has to know of a unit after a stop.
 #[derive(Drop)]
 pub enum Fact<V = Build> {
     /// It opened a claim of this round.
@@ -54,17 +53,17 @@ pub enum Fact<V = Build> {
     Held(V),
 }
 
-/// What a member writes down of a unit before it answers.
+/// What a member writes to its log about a unit before it answers.
 #[derive(Drop)]
 pub struct Note<V = Build> {
-    /// The name of the unit that it is about.
+    /// The name of the unit.
     pub path: PkgPath,
-    /// What is to be known of that unit.
+    /// The fact about that unit.
     pub fact: Fact<V>,
 }
 
 impl<V: Value> Body<V> {
-    /// An equal body. It fails only for want of memory.
+    /// An equal body. Fails only if memory runs out.
     pub fn copy(&self) -> Result<Body<V>, Memory>
         ensures { IfOk result (λ body. body ≡ self.now) }
     {
@@ -90,7 +89,7 @@ impl<V: Value> Body<V> {
 }
 
 impl<V: Value> Message<V> {
-    /// An equal message. It fails only for want of memory.
+    /// An equal message. Fails only if memory runs out.
     pub fn copy(&self) -> Result<Message<V>, Memory>
         ensures { IfOk result (λ message. message ≡ self.now) }
     {
@@ -106,7 +105,7 @@ impl<V: Value> Message<V> {
 }
 
 impl<V: Value> Fact<V> {
-    /// An equal fact. It fails only for want of memory.
+    /// An equal fact. Fails only if memory runs out.
     pub fn copy(&self) -> Result<Fact<V>, Memory>
         ensures { IfOk result (λ fact. fact ≡ self.now) }
     {
@@ -126,7 +125,7 @@ impl<V: Value> Fact<V> {
 }
 
 impl<V: Value> Note<V> {
-    /// An equal note. It fails only for want of memory.
+    /// An equal note. Fails only if memory runs out.
     pub fn copy(&self) -> Result<Note<V>, Memory>
         ensures { IfOk result (λ note. note ≡ self.now) }
     {

@@ -1,6 +1,6 @@
 //! The members that promised or voted so far.
 ghost use Rattle.std.specs.Prelude.{◌≡◌, IfOk};
-ghost use Rattle.agreement.specs.Quorums.{is_majority};
+ghost use Rattle.claims.specs.Quorums.{is_majority};
 ghost use Rattle.ballots.specs.Support.{IsMember, joined_by, of_nobody, set_of};
 
 use crate::Weights;
@@ -8,8 +8,8 @@ use arrayvec::ArrayVec;
 use faults::Memory;
 use std::marker::Model;
 
-/// The members that joined, each once. Contracts see what each member weighs, and those that
-/// joined, in that order.
+/// The members that joined, without repetition. Contracts see the weight of each member, and the
+/// members that joined, in the order in which they did.
 #[derive(Drop)]
 pub struct Tally {
     weights: Weights,
@@ -29,7 +29,7 @@ impl Model for Tally {
 }
 
 impl Tally {
-    /// A tally that nobody joined.
+    /// An empty tally.
     pub fn new(weights: &Weights) -> Tally
         ensures { result ≡ of_nobody weights.now }
     {
@@ -39,7 +39,7 @@ impl Tally {
         }
     }
 
-    /// Adds the member, which counts once, however often it joins.
+    /// Adds the member. It counts once, however often it joins.
     pub fn join(&mut self, member: u8)
         requires { IsMember member }
         ensures { self.new ≡ joined_by self.old member }
@@ -49,7 +49,7 @@ impl Tally {
         }
     }
 
-    /// The tally with one more member, which counts once.
+    /// The tally with this member, which counts once.
     pub fn with(&self, member: u8) -> Result<Tally, Memory>
         requires { IsMember member }
         ensures { IfOk result (λ tally. tally ≡ joined_by self.now member) }
@@ -63,31 +63,31 @@ impl Tally {
         Ok(tally)
     }
 
-    /// A tally of the same members that nobody joined.
+    /// An empty tally with the same weights.
     pub fn emptied(&self) -> Tally
         ensures { result ≡ of_nobody self.now.weights }
     {
         Tally::new(&self.weights)
     }
 
-    /// What members weigh.
+    /// The members' weights.
     pub fn weights(&self) -> &Weights
         ensures { result.now ≡ self.now.weights }
     {
         &self.weights
     }
 
-    /// Whether the member joined. Those that did not are asked again.
+    /// Whether the member joined. The others are asked again.
     pub fn has(&self, member: u8) -> bool
         ensures { result ≡ set_of self.now member }
     {
         self.joined.contains(&member)
     }
 
-    /// Whether those that joined are a majority.
+    /// Whether the members that joined are a majority.
     pub fn is_majority(&self) -> bool
         ensures { result ≡ is_majority self.now.weights (set_of self.now) }
     {
-        agreement::is_majority(self.weights.as_slice(), self.joined.as_slice())
+        claims::is_majority(self.weights.as_slice(), self.joined.as_slice())
     }
 }

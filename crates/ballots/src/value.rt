@@ -1,4 +1,4 @@
-//! What is agreed on.
+//! What members agree on.
 ghost use Rattle.std.specs.Prelude.{◌≡◌, IfOk};
 ghost use Rattle.std.specs.Option.{option_copied};
 
@@ -6,9 +6,9 @@ use claims::Claim;
 use faults::Memory;
 use package_record::Build;
 
-/// A value that can be copied, where memory allows it.
+/// A value that can be copied, if memory allows it.
 pub trait Value: Drop {
-    /// An equal value. It fails only for want of memory.
+    /// An equal value. Fails only if memory runs out.
     fn copy(&self) -> Result<Self, Memory>
         ensures { IfOk result (λ copy. copy ≡ self.now) };
 }

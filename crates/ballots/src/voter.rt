@@ -1,24 +1,23 @@
 //! The voter of one unit: what it promised, and what it last voted for.
 ghost use Rattle.std.specs.Prelude.{◌≡◌, IfOk, Some};
-ghost use Rattle.agreement.specs.Member.{greater};
-ghost use Rattle.agreement.specs.Step.{on_offer, on_propose};
-ghost use Rattle.agreement.specs.Votes.{ballot, is_voted, report_of};
+ghost use Rattle.claims.specs.Member.{greater};
+ghost use Rattle.claims.specs.Step.{on_offer, on_propose};
+ghost use Rattle.claims.specs.Votes.{ballot, is_voted, report_of};
 ghost use Rattle.ballots.specs.InTheAgreement.{IsStepOf, promised_then, voted_then};
 ghost use Rattle.ballots.specs.inside.Steps.{refusal_of};
 
 use crate::value::copy_of_vote;
 use crate::{Body, Fact, Value};
-use agreement::{is_above, is_below, is_promised};
-use claims::Claim;
+use claims::{Claim, is_above, is_below, is_promised};
 use faults::Memory;
 use package_record::Build;
 use std::marker::Model;
 
-/// What a member promised, and its last vote, for one unit. Each vote raises what is promised, so
-/// who voted has promised; whoever makes a voter proves that.
+/// What a member promised, and its last vote, for one unit. Each vote raises the promise, so a
+/// voter that has voted has promised. The code that makes a voter proves that.
 #[derive(Drop)]
 pub struct Voter<V = Build> {
-    /// The greatest claim that it promised or voted under.
+    /// The greatest claim that the member promised or voted under.
     pub promised: Option<Claim>,
     /// The claim and the value of its last vote.
     pub voted: Option<(Claim, V)>,
@@ -34,22 +33,22 @@ impl<V> Model for Voter<V> {
     ghost invariant = { λ voter. HasPromised voter.promised voter.voted };
 }
 
-/// What a voter is to note first, what it then answers to the claim's member, and what it keeps. It
-/// holds all that was grown for it. What it keeps is apart from the note, so that the note can be
-/// handed to a log before the change is taken.
+/// What a voter has to note first, what it then answers to the claim's member, and what it keeps.
+/// It has all that was allocated for it. What it keeps is separate from the note, so that the note
+/// can be written to a log before the change is made.
 #[derive(Drop)]
 pub struct VoterStep<V = Build> {
-    /// What has to be on the log before the answer goes out.
+    /// What has to be on the log before the answer is sent.
     pub note: Option<Fact<V>>,
     /// A promise, a vote or a nay.
     pub answer: Body<V>,
-    /// What changes of the voter: it keeps what is noted.
+    /// The change of the voter: it keeps what is noted.
     pub change: Option<Fact<V>>,
 }
 
 impl<V: Value> Voter<V> {
-    /// The step for an offer: a promise that reports the last vote, or a nay. It fails only for
-    /// want of memory.
+    /// The step on an offer: a promise that reports the last vote, or a nay. Fails only if memory
+    /// runs out.
     pub fn offer(&self, claim: Claim) -> Result<VoterStep<V>, Memory>
         ensures { IfOk result (IsStepOf V self.now (λ i x. on_offer i x claim)) }
     {
@@ -72,7 +71,7 @@ impl<V: Value> Voter<V> {
         Ok(self.refusal(claim))
     }
 
-    /// The step for a proposal: a vote, or a nay. It fails only for want of memory.
+    /// The step on a proposal: a vote, or a nay. Fails only if memory runs out.
     pub fn propose(&self, claim: Claim, value: &V) -> Result<VoterStep<V>, Memory>
         ensures { IfOk result
             (IsStepOf V self.now (λ i x. on_propose i x (ballot claim value.now))) }
@@ -97,8 +96,8 @@ impl<V: Value> Voter<V> {
         Ok(self.refusal(claim))
     }
 
-    /// Takes what a step changes, or a fact that was noted: it keeps the greatest claim that it
-    /// promised or voted under, and its last vote. It moves what it is given, and takes no memory.
+    /// Makes the change of a step, or restores a fact that was noted. Keeps the greatest claim that
+    /// the member promised or voted under, and its last vote. The fact is moved; does not allocate.
     pub fn apply(&mut self, change: Option<Fact<V>>)
         ensures promised { self.new.promised ≡ promised_then self.old change }
         ensures voted { report_of self.new.voted ≡ voted_then self.old change }

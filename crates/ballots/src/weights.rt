@@ -1,4 +1,4 @@
-//! What members weigh.
+//! The weights of members.
 ghost use Rattle.std.specs.Prelude.{◌≡◌, ◌≤◌, ◌↔◌, false, None, IfOk, IsErr, length};
 ghost use Rattle.std.specs.List.{list_all};
 ghost use Rattle.ballots.specs.Weights.{AreWeights, are_weights, is_weight};
@@ -8,12 +8,12 @@ use faults::Fault;
 use std::marker::Model;
 use thiserror::Error;
 
-/// The most that a member may weigh. The least is 1.
+/// The maximum weight of a member. The minimum is 1.
 pub const GREATEST_WEIGHT: u8 = 100;
 
-/// No table of weights: there is no member, there are more than nine, or a weight is not 1 to 100.
+/// Invalid weights: there is no member, there are more than nine, or a weight is not 1 to 100.
 #[derive(Clone, Copy, Debug, PartialEq, Eq, Error)]
-#[error("the weights of the members are bad")]
+#[error("the weights of the members are invalid")]
 pub struct BadWeights;
 
 impl Fault for BadWeights {
@@ -30,8 +30,8 @@ impl Fault for BadWeights {
     }
 }
 
-/// What each member weighs: one to nine members, each with a weight of 1 to 100. Member k has the
-/// weight at place k.
+/// The weight of each member: one to nine members, each with a weight of 1 to 100. The weight of
+/// member k is at place k.
 #[derive(Drop)]
 pub struct Weights {
     table: [u8; 9],
@@ -75,7 +75,7 @@ impl Weights {
         &self.table[..self.count as usize]
     }
 
-    /// How many members there are: one to nine.
+    /// The number of members: one to nine.
     pub fn len(&self) -> usize
         ensures members { result ≡ length self.now }
         ensures few { (1 ≤ result) × (result ≤ 9) }
@@ -83,7 +83,7 @@ impl Weights {
         self.count as usize
     }
 
-    /// Equal weights. It takes no memory.
+    /// Equal weights. Does not allocate.
     pub fn copy(&self) -> Weights
         ensures { result ≡ self.now }
     {
@@ -94,14 +94,14 @@ impl Weights {
     }
 }
 
-/// Whether these are the weights of one to nine members.
+/// Whether these are valid weights of one to nine members.
 fn are_weights(weights: &[u8]) -> bool
     ensures { result ≡ are_weights weights.now }
 {
     !weights.is_empty() && weights.len() <= usize::from(MEMBERS) && all_weigh(weights)
 }
 
-/// Whether each is the weight of a member.
+/// Whether each is a valid weight.
 fn all_weigh(weights: &[u8]) -> bool
     ensures { result ≡ list_all is_weight weights.now }
 {
@@ -113,7 +113,7 @@ fn all_weigh(weights: &[u8]) -> bool
     true
 }
 
-/// Whether a member may weigh this.
+/// Whether the weight is valid.
 fn is_weight(weight: u8) -> bool
     ensures { result ≡ is_weight weight }
 {

@@ -1,5 +1,5 @@
--- The limits of claims, how they compare, and which a member can have made.
-use Rattle.agreement.specs.declared.claim.Claim.{Claim}
+-- The limits of claims, their order, and which claims a member can have made.
+use Rattle.claims.specs.declared.claim.Claim.{Claim}
 use Rattle.claims.specs.declared.TheConstants.{GREATEST_ROUND, MEMBERS}
 use Rattle.std.specs.Prelude.{◌<◌, ◌≤◌, ℕ, Option}
 use Rattle.std.specs.Option.{option_cmp}
@@ -10,7 +10,7 @@ use Rattle.std.specs.declared.cmp.Ordering.{Ordering}
 abbrev pub greatest_round : ℕ
 greatest_round = GREATEST_ROUND
 
--- The most members there may be. They are numbered from 0.
+-- The maximum number of members. They are numbered from 0.
 abbrev pub most_members : ℕ
 most_members = MEMBERS
 
@@ -18,11 +18,11 @@ most_members = MEMBERS
 abbrev pub claim_cmp : Claim → Claim → Ordering
 claim_cmp = then_cmp (on (λ c. c.round) nat_cmp) (on (λ c. c.member) nat_cmp)
 
--- No claim at all is below every claim.
+-- Having promised nothing is below every claim.
 abbrev pub promised_cmp : Option Claim → Option Claim → Ordering
 promised_cmp = option_cmp claim_cmp
 
--- A round of a claim: 1 at least, and the greatest one at most.
+-- A valid round: from 1 to the greatest round.
 abbrev pub IsRound : ℕ → Type 0
 IsRound round = (1 ≤ round) × (round ≤ greatest_round)
 

@@ -7,7 +7,7 @@ use pkgpath::PkgPath;
 use std::alloc::Global;
 use std::marker::Model;
 
-/// A package that a build stood on, as its signature: its path, its name, and the SHA-256 of its
+/// The signature of a package that a build is made on: its path, its name, and the SHA-256 of its
 /// record's text.
 #[derive(Drop)]
 pub struct Dep {
@@ -30,7 +30,7 @@ impl Dep {
         })
     }
 
-    /// An equal signature, with the texts that are had of its package.
+    /// An equal signature, which uses the given texts of its package.
     fn with_texts<T: Texts>(self, texts: &T) -> Dep
         ensures { result ≡ self }
     {
@@ -40,18 +40,18 @@ impl Dep {
     }
 }
 
-/// Who has the texts of paths and names, so that others need none of their own.
+/// A source of the texts of paths and names, for others to share.
 pub trait Texts {
-    /// An equal path, which shares the text that is had of it, if one is.
+    /// An equal path. If the source has its text, it shares that.
     fn path(&self, path: PkgPath) -> PkgPath
         ensures { result ≡ path };
 
-    /// An equal path and an equal name of one package, which share what texts are had of them.
+    /// The equal path and name of one package. If the source has their texts, they share these.
     fn package(&self, path: PkgPath, name: PkgName) -> (PkgPath, PkgName)
         ensures { result ≡ (path, name) };
 }
 
-/// A list of dependencies, in any order, which contracts see as such.
+/// A list of dependencies, in any order. Contracts see it as such.
 #[derive(Drop)]
 pub struct Deps {
     items: Vec<Dep>,
@@ -101,7 +101,7 @@ impl Deps {
         Ok(Deps { items })
     }
 
-    /// An equal list, with the texts that are had of its packages, and no room to spare.
+    /// An equal list, which uses the given texts of its packages, without spare capacity.
     pub fn with_texts<T: Texts>(self, texts: &T) -> Result<Deps, Memory>
         ensures { IfOk result (λ deps. deps ≡ self) }
     {

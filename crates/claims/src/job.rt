@@ -8,15 +8,15 @@ use pkgpath::PkgPath;
 use std::alloc::Global;
 use std::marker::Model;
 
-/// A build that a claim leads to: the unit by its name, the paths of the packages that it makes,
-/// the host that builds them, and the dependencies that they stand on. Paths and dependencies are
-/// in order of path, each once, and whoever makes a job proves that.
+/// The build that a claim leads to: the name of the unit, the paths of its packages, the host that
+/// builds them, and the dependencies that they are built on. Paths and dependencies are in
+/// ascending order of path, without repetition. The code that makes a job proves that.
 #[derive(Drop)]
 pub struct Job {
     /// The name of the unit: its only package's path, or the path without subpackage that its
     /// packages share.
     pub path: PkgPath,
-    /// The paths of the packages to be made.
+    /// The paths of the packages to build.
     pub packages: Vec<PkgPath>,
     pub claim: Claim,
     pub host: u16,
@@ -36,7 +36,7 @@ impl Model for Job {
 }
 
 impl Job {
-    /// The paths of the packages to be made, in order, each once.
+    /// The paths of the packages to build, in ascending order, without repetition.
     pub fn packages(&self) -> &[PkgPath]
         ensures packages { result.now ≡ self.now.packages }
         ensures in_order { AreAscending self.now.packages }
@@ -44,7 +44,7 @@ impl Job {
         self.packages.as_slice()
     }
 
-    /// The dependencies, in order of path, each path once.
+    /// The dependencies, in ascending order of path, without repetition.
     pub fn deps(&self) -> &Deps
         ensures deps { result.now ≡ self.now.deps }
         ensures in_order { AreInOrder self.now.deps }
@@ -69,7 +69,7 @@ impl Job {
     }
 }
 
-/// Equal paths, in their order.
+/// Copies of the paths, in their order.
 fn copy_paths(paths: &[PkgPath], alloc: Global) -> Result<Vec<PkgPath>, Memory>
     ensures { IfOk result (λ copies. copies.items ≡ paths.now) }
 {

@@ -1,12 +1,12 @@
--- What the values of a call are at most.
+-- Upper bounds of a call's values.
 use Rattle.std.proofs.Common.{List, Option, None, Some}
 use Rattle.clap.specs.Words.{Row, Text}
 use Rattle.cluster.specs.Stopped.{IsGood}
-use Rattle.dpbn_words.specs.Calls.{ArePeers, IsCallOf}
-use Rattle.dpbn_words.specs.declared.Call.{Call}
-use Rattle.dpbn_words.specs.declared.Call.TheVariants.{Build, Cluster, Key, Node}
-use Rattle.dpbn_words.specs.declared.Peers.{Peers}
-use Rattle.dpbn_words.specs.declared.Peers.TheVariants.{Base, Hosts}
+use Rattle.dpbn_cli.specs.Calls.{ArePeers, IsCallOf}
+use Rattle.dpbn_cli.specs.declared.Call.{Call}
+use Rattle.dpbn_cli.specs.declared.Call.TheVariants.{Build, Cluster, Key, Node}
+use Rattle.dpbn_cli.specs.declared.Peers.{Peers}
+use Rattle.dpbn_cli.specs.declared.Peers.TheVariants.{Base, Hosts}
 use Rattle.dpbn_build.specs.Build.{AreGood}
 
 good_peers : (rows : List Row) (peers : Peers) → ArePeers rows peers → AreGood peers

@@ -1,10 +1,10 @@
--- With which status a build ends.
+-- The exit status of a build.
 use Rattle.std.proofs.Common.{◌≡◌, ◌⊎◌, ◌&&◌, ◌==◌, ℕ, Bool, true, false, Option, None, Some, inl, inr}
 use Rattle.std.specs.Prelude.{if◌then◌else◌}
 use Rattle.dpbn_build.specs.Build.{IsBuildText, IsLineWith, letters_of}
-use Rattle.dpbn_words.specs.declared.Peers.{Peers}
-use Rattle.dpbn_words.specs.declared.Run.{Run}
-use Rattle.dpbn_words.specs.declared.Site.{Site}
+use Rattle.dpbn_cli.specs.declared.Peers.{Peers}
+use Rattle.dpbn_cli.specs.declared.Run.{Run}
+use Rattle.dpbn_cli.specs.declared.Site.{Site}
 use Rattle.engine.specs.State.{State}
 use Rattle.faults.specs.Bytes.{Text}
 

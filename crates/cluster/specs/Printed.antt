@@ -1,17 +1,17 @@
--- What the program prints, and the status with which it then ends.
+-- What the program prints, and its exit status.
 use Rattle.std.specs.Prelude.{◌≡◌, ℕ, List, [], Option}
 use Rattle.std.specs.Io.KnownBytes.{Appends}
 use Rattle.clap.specs.Words.{Text as Word}
 use Rattle.dpbn_build.specs.Build.{IsBuildText, IsNodeText}
 use Rattle.dpbn_cluster.specs.Cluster.{IsClusterText}
-use Rattle.dpbn_words.specs.Calls.{AreTaken, IsCallOf, matched}
-use Rattle.dpbn_words.specs.declared.Call.{Call}
-use Rattle.dpbn_words.specs.declared.Call.TheVariants.{Build, Cluster, Key, Node}
+use Rattle.dpbn_cli.specs.Calls.{AreTaken, IsCallOf, matched}
+use Rattle.dpbn_cli.specs.declared.Call.{Call}
+use Rattle.dpbn_cli.specs.declared.Call.TheVariants.{Build, Cluster, Key, Node}
 use Rattle.faults.specs.Bytes.{Text}
-use Rattle.program.specs.Printing.{AppendsBeginning}
+use Rattle.program_io.specs.Printing.{AppendsBeginning}
 
--- what a call prints, and its status: 0, but of a build, whose status says whether all that can be
--- held is
+-- What a call prints, and its status. The status is 0, except that of a build, which says whether
+-- all is held that can be.
 abbrev pub IsOutputOf : Call → ℕ → Text → Type 0
 IsOutputOf (Cluster files trace) status text = (status ≡ 0) × IsClusterText files text
 IsOutputOf (Node files me peers patience run) status text =
@@ -20,14 +20,13 @@ IsOutputOf (Build site me peers patience run) status text =
     IsBuildText site me peers run text status
 IsOutputOf (Key file) status text = (status ≡ 0) × (text ≡ [])
 
--- what was written since, where it is known, is one such text, and the status is the one that goes
--- with it
+-- what was written since, if that is known, is such a text, and this is its status
 pub record HasPrinted (call : Call) (status : ℕ) (before after : Option (List ℕ)) : Type 0 where
   pub text : Text
   pub is_output : IsOutputOf call status text
   pub appended : Appends before after text
 
--- the words are taken, and what the call prints that is matched was written
+-- the arguments are accepted, and what the matched call prints was written
 pub record HasCarriedOut (words : List Word) (status : ℕ)
     (before after : Option (List ℕ)) : Type 0 where
   pub taken : AreTaken words
@@ -35,7 +34,7 @@ pub record HasCarriedOut (words : List Word) (status : ℕ)
   pub is_call : IsCallOf (matched words) call
   pub printed : HasPrinted call status before after
 
--- what was written since, where it is known, is a beginning of one text that the call prints
+-- what was written since, if that is known, is the beginning of a text that the call prints
 pub record HasBegun (call : Call) (before after : Option (List ℕ)) : Type 0 where
   pub status : ℕ
   pub text : Text

@@ -9,24 +9,26 @@ ghost use Rattle.cluster.specs.Stopped.{
   IsGood,
   RefusesCall,
 };
-ghost use Rattle.dpbn_words.specs.Calls.{AreTaken};
-ghost use Rattle.program.specs.Refusals.{IsSystemRefusal};
+ghost use Rattle.dpbn_cli.specs.Calls.{AreTaken};
+ghost use Rattle.program_io.specs.Refusals.{IsSystemRefusal};
 
 use dpbn_build::{build_of_words, node_of_words};
+use dpbn_cli::{Call, dpbn_words};
 use dpbn_cluster::cluster_of_words;
 use dpbn_key::make_key;
-use dpbn_words::{Call, dpbn_words};
-use program::{Answer, Refusal, Stop, print};
+use program_io::{Answer, Refusal, Stop, print};
 use std::io::Write;
 
-/// Carries out the call that the words make, and gives the status with which the program ends: 0; 3
-/// after a build that says that something isn't held; 1 after a fault, of which it writes one line
-/// to `err`, `dpbn: fault N` or `dpbn: fault N at K`; 2 where the words make no call, or ask for
-/// help, after clap's text on `err`. A fault of a turn is written to `err`, too, and the turns go
-/// on.
+/// Carries out the call that the arguments make, and returns the exit status:
+/// - 0;
+/// - 3 after a build that says that something isn't held;
+/// - 1 after a fault, with one line on `err`, `dpbn: fault N` or `dpbn: fault N at K`;
+/// - 2 if the arguments make no call or ask for help, after clap's text on `err`.
 ///
-/// The first word is the program's name. The nodes' lines are made before any of them is written
-/// to `out`; lines that can't be written are fault 2.
+/// Faults of turns are written to `err`, too, and the turns continue.
+///
+/// The first argument is the program's name. All nodes' lines are made before the first is written
+/// to `out`. If they can't be written, that is fault 2.
 pub fn dpbn_main<O: Write, E: Write>(
     rt: &HostRuntime,
     words: &[String],
@@ -53,14 +55,13 @@ pub fn dpbn_main<O: Write, E: Write>(
     }
 }
 
-/// Carries out the call that the words make, the first of which is the program's name, and gives
-/// the status with which the program then ends: 0, or 3 after a build that says that something
-/// isn't held.
+/// Carries out the call that the arguments make, and returns the exit status: 0, or 3 after a build
+/// that says that something isn't held. The first argument is the program's name.
 ///
 /// # Errors
 ///
-/// `WrongWords`, where the words make no call; `Refused`, where something that the call is given is
-/// bad, or memory was refused; `Unwritten`, where a write to `out` failed.
+/// `WrongWords` if the arguments make no call; `Refused` if something that the call is given is
+/// bad, or memory ran out; `Unwritten` if a write to `out` failed.
 fn dpbn_call<O: Write, E: Write>(
     rt: &HostRuntime,
     words: &[String],
@@ -77,7 +78,7 @@ fn dpbn_call<O: Write, E: Write>(
     carry_out(rt, &call, out, err)
 }
 
-/// Prints what the call asks for, and gives the status that goes with it.
+/// Prints what the call asks for, and returns its status.
 fn carry_out<O: Write, E: Write>(
     rt: &HostRuntime,
     call: &Call<'_>,
@@ -125,7 +126,7 @@ fn answer_to<E: Write>(rt: &HostRuntime, call: &Call<'_>, err: &mut E) -> Result
     }
 }
 
-/// Nothing, once a file with a new key is made.
+/// Makes a file with a new key, and returns an empty text.
 fn made_key(rt: &HostRuntime, file: &str) -> Result<Answer, Refusal>
     ensures output { IfOk result (λ answer. (answer.status ≡ 0) × (answer.text.items ≡ [])) }
     ensures refused { IfErr result IsSystemRefusal }

@@ -17,7 +17,7 @@ fn main(rt: HostRuntime) -> ExitCode {
     ExitCode::from(status)
 }
 
-/// The words of the call. Words that are not all text are no call, as no words are.
+/// The arguments. If one isn't valid UTF-8, this is an empty list, which makes no call.
 fn words(rt: &HostRuntime) -> io::Result<Vec<String>> {
     let args = match env::args(rt) {
         Ok(args) => args,

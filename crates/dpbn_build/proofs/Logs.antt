@@ -1,9 +1,9 @@
 -- A log that has no notes, and one on which no node starts.
 use Rattle.std.proofs.Common.{◌≡◌, Bool, Option, inl, inr, subst, sym}
 use Rattle.dpbn_build.specs.Build.{LacksNotes}
-use Rattle.dpbn_run.specs.Starts.{IsStartRefusal}
+use Rattle.dpbn_node.specs.Starts.{IsStartRefusal}
 use Rattle.faults.specs.Bytes.{Text}
-use Rattle.program.specs.declared.refusal.Refusal.{Refusal}
+use Rattle.program_io.specs.declared.refusal.Refusal.{Refusal}
 use Rattle.run_file.specs.Found.{IsFound}
 use Rattle.run_file.specs.declared.judging.LogFound.TheVariants.{Absent, Blank, Fresh}
 use Rattle.stable_record.specs.History.{seen}

@@ -6,7 +6,7 @@ use Rattle.engine.specs.State.{AreCounts, State}
 use Rattle.engine.specs.declared.Counts.{Counts}
 use Rattle.faults.specs.Bytes.{Text}
 use Rattle.node.specs.State.{NodeState}
-use Rattle.program.specs.NodeLine.{node_line}
+use Rattle.program_io.specs.NodeLine.{node_line}
 use Rattle.protocol.specs.State.{engine_of}
 
 module _ (me : ℕ) (n : NodeState) where

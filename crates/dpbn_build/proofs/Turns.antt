@@ -3,8 +3,8 @@ use Rattle.std.proofs.Common.{◌≡◌, ◌+◌, ◌++◌, ◌∙◌, ℕ, List
 use Rattle.dpbn_build.specs.Turns.{HaveTurned, IsAtEnd, IsTurn, Turn, TurnsLead}
 use Rattle.dpbn_node.specs.Runs.{SoloState}
 use Rattle.faults.specs.Bytes.{Text}
-use Rattle.ports.specs.Calls.{Call}
-use Rattle.ports.specs.Kept.{Arrived, Parcel}
+use Rattle.datagram_ports.specs.Calls.{Call}
+use Rattle.datagram_ports.specs.Kept.{Arrived, Parcel}
 use Rattle.stable_record.specs.History.{History}
 use Rattle.udp.specs.declared.patience.Hurry.{Hurry}
 

@@ -6,16 +6,16 @@ pub use Rattle.dpbn_node.specs.Runs.{AreGood, letters_of}
 use Rattle.dpbn_node.specs.Given.{RefusesWeights}
 use Rattle.dpbn_node.specs.Runs.{HasBegun, HasFlushed, IsOfNode, IsRunOf, RefusesPlace, RefusesStart, RunOf, Running, port_vouches}
 use Rattle.dpbn_node.specs.declared.starting.Begun.{Begun}
-use Rattle.dpbn_run.specs.Starts.{owner}
-use Rattle.dpbn_words.specs.declared.Peers.{Peers}
-use Rattle.dpbn_words.specs.declared.Run.{Run}
-use Rattle.dpbn_words.specs.declared.Site.{Site}
+use Rattle.dpbn_node.specs.Starts.{owner}
+use Rattle.dpbn_cli.specs.declared.Peers.{Peers}
+use Rattle.dpbn_cli.specs.declared.Run.{Run}
+use Rattle.dpbn_cli.specs.declared.Site.{Site}
 use Rattle.engine.specs.State.{AreCounts, State}
 use Rattle.engine.specs.declared.Counts.{Counts}
 use Rattle.faults.specs.Bytes.{Text}
-use Rattle.program.specs.Listings.{RefusesListingFile}
-use Rattle.program.specs.NodeLine.{node_line}
-use Rattle.program.specs.declared.refusal.Refusal.{Refusal}
+use Rattle.program_io.specs.Listings.{RefusesListingFile}
+use Rattle.program_io.specs.NodeLine.{node_line}
+use Rattle.program_io.specs.declared.refusal.Refusal.{Refusal}
 use Rattle.run_file.specs.Found.{IsFound}
 use Rattle.run_file.specs.declared.judging.LogFound.TheVariants.{Blank, Fresh}
 use Rattle.stable_record.specs.History.{seen}

@@ -3,10 +3,10 @@ use Rattle.std.specs.Prelude.{◌≡◌, ◌≢◌, ◌<◌, ◌⊎◌, ℕ, tru
 use Rattle.dpbn_node.specs.Runs.{Outcome, SoFar, SoloState}
 use Rattle.dpbn_node.specs.Runs.{IsTurn as IsTurnOf}
 use Rattle.faults.specs.Bytes.{Text}
-use Rattle.live_choice.specs.declared.wish.Wish.{Wish}
+use Rattle.scheduler.specs.Wish.{Wish}
 use Rattle.node.specs.State.{NodeState}
-use Rattle.ports.specs.Calls.{Call}
-use Rattle.ports.specs.Kept.{Arrived, Parcel}
+use Rattle.datagram_ports.specs.Calls.{Call}
+use Rattle.datagram_ports.specs.Kept.{Arrived, Parcel}
 use Rattle.protocol.specs.Given.{Given}
 use Rattle.protocol.specs.Step.{job_of_claim}
 use Rattle.stable_record.specs.History.{History}

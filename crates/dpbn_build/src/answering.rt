@@ -11,29 +11,31 @@ ghost use Rattle.dpbn_build.specs.Build.{
   work_refusal,
 };
 ghost use Rattle.dpbn_node.specs.Runs.{AreGood, IsOfNode, IsOfNodeOn, RefusesOnLog, letters_of, run_at};
-ghost use Rattle.dpbn_run.specs.Starts.{IsStartRefusal};
-ghost use Rattle.program.specs.Refusals.{IsSystemRefusal};
+ghost use Rattle.dpbn_node.specs.Starts.{IsStartRefusal};
+ghost use Rattle.program_io.specs.Refusals.{IsSystemRefusal};
 
 use crate::ending::Rest;
 use crate::office::Office;
 use crate::pacing::Pacing;
 use crate::turning::run;
 use ballots::Weights;
-use desk::{Desk, Pace};
-use dpbn_node::{Begun, Place, Solo, begin, open, place_of_words, weights_of_words};
-use dpbn_run::{Telling, identity_of, write_unwritten};
-use dpbn_words::{Peers, Run, Site};
+use datagram_ports::Port;
+use dpbn_cli::{Peers, Run, Site};
+use dpbn_node::{
+    Begun, Place, Solo, Telling, begin, identity_of, open, place_of_words, weights_of_words,
+    write_unwritten,
+};
 use engine::Counts;
+use job_folder::Folder;
 use listing::Tree;
-use ports::Port;
-use program::{Answer, Refusal, node_text, tree_of_file};
+use program_io::{Answer, Refusal, node_text, tree_of_file};
 use run_file::{LogFound, Start, StartFault, found_in};
+use scheduler::{Desk, Pace};
 use stable_record::{Disk, FileDisk, Identity};
 use std::alloc::{AllocError, Global};
 use std::io::Write;
 use std::time::{Duration, Instant};
 use udp::UdpPort;
-use work::Folder;
 
 /// For how many seconds a unit is left to another member, where it isn't told.
 const TAKEOVER: u32 = 600;

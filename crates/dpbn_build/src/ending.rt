@@ -4,8 +4,8 @@ ghost use Rattle.dpbn_build.specs.Turns.{IsAtEnd};
 ghost use Rattle.protocol.specs.Step.{job_of_claim};
 
 use crate::office::Office;
+use datagram_ports::Port;
 use dpbn_node::Solo;
-use ports::Port;
 use stable_record::Disk;
 use std::io::Write;
 use std::time::{Duration, Instant};

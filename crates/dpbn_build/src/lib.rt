@@ -9,4 +9,4 @@ mod pacing;
 mod turning;
 
 pub use crate::answering::build_of_words;
-pub use dpbn_node::node_of_words;
+pub use dpbn_node::{MemPort, Port, Solo, UdpPort, node_of_words};

@@ -3,21 +3,19 @@
 
 use crate::ending::Rest;
 use crate::pacing::Pacing;
-use desk::{Desk, Look};
-use dpbn_node::{Act, Solo, TurnFault};
-use dpbn_run::{Telling, front_of_requests};
+use datagram_ports::Port;
+use dpbn_node::{Act, Solo, Telling, TurnFault, front_of_requests};
 use engine::Counts;
-use live_choice::Wish;
+use job_folder::WorkFault;
 use member::{Input, Member};
-use ports::Port;
-use program::Refusal;
+use program_io::Refusal;
 use protocol::Packages;
+use scheduler::{Desk, Look, Wish};
 use stable_record::Disk;
 use std::alloc::Global;
 use std::io::Write;
 use std::time::{Duration, Instant};
 use udp::{Hurry, Tallies};
-use work::WorkFault;
 
 /// How many bytes a log's file may have.
 const MOST_BYTES: u64 = 2_147_483_648;

@@ -6,8 +6,8 @@ ghost use Rattle.udp.specs.declared.patience.Hurry.{Hurry};
 
 use crate::ending::is_at_end;
 use crate::office::{Handed, Office, Turned};
+use datagram_ports::Port;
 use dpbn_node::Solo;
-use ports::Port;
 use stable_record::{Disk, FileDisk};
 use std::io::Write;
 use std::time::Clock;

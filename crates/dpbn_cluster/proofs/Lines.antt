@@ -3,7 +3,7 @@ use Rattle.std.proofs.Common.{◌≡◌, ◌∙◌, ℕ, Bool, true, false, List
 use Rattle.std.proofs.lemmas.List.{length-replicate}
 use Rattle.std.proofs.lemmas.Option.{slice_get-map}
 use Rattle.std.specs.Prelude.{option_map}
-use Rattle.choosing.specs.Here.{member_up}
+use Rattle.cluster_turns.specs.Here.{member_up}
 use Rattle.dpbn_cluster.specs.Cluster.{HasLines, IsShown}
 use Rattle.dpbr_run.specs.Run.{IsNodeLine, letters_at}
 use Rattle.dpbr_run.specs.shared.NodeLines.{HasNodeLines}
@@ -12,10 +12,10 @@ use Rattle.engine.specs.State.{AreCounts}
 use Rattle.engine.specs.declared.Counts.{Counts}
 use Rattle.faults.specs.Bytes.{Text}
 use Rattle.node.specs.State.{LoggedNode, NodeState}
-use Rattle.program.specs.NodeLine.{IsLineOf, node_line}
+use Rattle.program_io.specs.NodeLine.{IsLineOf, node_line}
 use Rattle.protocol.specs.State.{State, engine_of}
-use Rattle.turns.specs.State.{ClusterState, IsWorldOf, here_of, node_view, taken}
-use Rattle.world.proofs.Growing.{leads_later}
+use Rattle.cluster_turns.specs.State.{ClusterState, IsWorldOf, here_of, node_view, taken}
+use Rattle.world.proofs.Growth.{leads_later}
 use Rattle.world.specs.World.{World, WorldNode, down_node, fresh_node, member_at, node_at, start, up_node}
 
 module _ {D P : Type 0} (c : ClusterState D P) (w : World) (is : IsWorldOf c w) where
@@ -80,7 +80,7 @@ module _ {D P : Type 0} (c : ClusterState D P) (w : World) (is : IsWorldOf c w) 
     parts = has.text_is;
   }
 
-  -- and the events lead to it
+  -- the events lead to it
   pub shown : (members : ℕ) (text : Text) → length c.weights ≡ members
       → HasNodeLines w members text → IsShown c.division c.weights (taken c) text
   shown members text each has = record {

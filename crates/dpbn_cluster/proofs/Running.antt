@@ -1,21 +1,21 @@
--- Turns, one after the other.
+-- Sequences of turns.
 use Rattle.std.proofs.Common.{◌≡◌, ◌∙◌, ◌++◌, ◌+◌, ℕ, List, [], ◌∷◌, Option, None, Some, Result, Ok, Err, IfErr, IfOk, append-nil, append_assoc, ap, length, map, refl, subst, sym}
 use Rattle.std.proofs.lemmas.List.{length_push}
 use Rattle.std.specs.Prelude.{IfNone, IfSome}
-use Rattle.choice.specs.declared.fault.TurnFault.TheVariants as refused
+use Rattle.turn_rules.specs.declared.fault.TurnFault.TheVariants as refused
 use Rattle.dpbn_cluster.specs.Running.{Answer, AreEventsOf, GoesOnIn, HasRun, IsTurn, TurnsLead}
-use Rattle.events.specs.Events.{Event, StopIn, event_view}
-use Rattle.events.specs.declared.event.Event as declared
-use Rattle.events.specs.declared.event.Left.TheVariants as left
-use Rattle.ports.specs.Calls.{Call}
-use Rattle.ports.specs.Kept.{Arrived}
+use Rattle.protocol.specs.Events.{Event, StopIn, event_view}
+use Rattle.protocol.specs.declared.event.Event as declared
+use Rattle.protocol.specs.declared.event.Left.TheVariants as left
+use Rattle.datagram_ports.specs.Calls.{Call}
+use Rattle.datagram_ports.specs.Kept.{Arrived}
 use Rattle.protocol.specs.Given.{Given}
-use Rattle.turns.specs.Faults.{IsLeftBy, IsTurnFault}
-use Rattle.turns.specs.State.{ClusterState, taken}
-use Rattle.turns.specs.Turn.{IsSame}
+use Rattle.cluster_turns.specs.Faults.{IsLeftBy, IsTurnFault}
+use Rattle.cluster_turns.specs.State.{ClusterState, taken}
+use Rattle.cluster_turns.specs.Turn.{IsSame}
 
 module _ {D P : Type 0} (given : P → Option (List Arrived)) (does : P → Call → P → Type 0) (builds : Given) where
-  -- a turn more
+  -- one more turn
   turn_more : (old between new : ClusterState D P) (answers : List Answer) (answer : Answer) → TurnsLead given does builds old answers between → IsTurn given does between new builds answer → TurnsLead given does builds old (answers ++ answer ∷ []) new
   turn_more old between new [] answer same turn =
       (new, subst (λ (c : ClusterState D P). IsTurn given does c new builds answer) same turn, refl)
@@ -32,14 +32,14 @@ module _ {D P : Type 0} (given : P → Option (List Arrived)) (does : P → Call
     led = turn_more old between new ran.answers answer ran.led turn;
   }
 
-  -- the tree and the weights stay
+  -- the tree and the weights are unchanged
   pub stays : (old new : ClusterState D P) (answers : List Answer) → TurnsLead given does builds old answers new → (new.division ≡ old.division) × (new.weights ≡ old.weights)
   stays old new [] same = (ap (λ (c : ClusterState D P). c.division) same, ap (λ (c : ClusterState D P). c.weights) same)
   stays old new (answer ∷ answers) (between, turn, others) =
       let later = stays between new answers others in
       (later.0 ∙ turn.division, later.1 ∙ turn.weights)
 
-  -- a turn's events
+  -- the events of one turn
   one_turn : (old new : ClusterState D P) (answer : Answer) → IsTurn given does old new builds answer → (events : List Event) × GoesOnIn answer events × (taken new ≡ taken old ++ events)
   one_turn old new (Ok None) turn = ([], refl, ap (map event_view) turn.same.events ∙ sym (append-nil (taken old)))
   one_turn old new (Ok (Some e)) turn = (event_view e ∷ [], refl, turn.kept)
@@ -51,7 +51,7 @@ module _ {D P : Type 0} (given : P → Option (List Arrived)) (does : P → Call
   one_turn old new (Err refused.NotSent) turn = ([], refl, ap (map event_view) turn.left.events ∙ sym (append-nil (taken old)))
   one_turn old new (Err refused.NotFresh) turn = absurd turn.refused
 
-  -- and those of all
+  -- the events of all turns
   pub events_of : (old new : ClusterState D P) (answers : List Answer) → TurnsLead given does builds old answers new → (events : List Event) × AreEventsOf answers events × (taken new ≡ taken old ++ events)
   events_of old new [] same = ([], refl, ap (λ (c : ClusterState D P). taken c) same ∙ sym (append-nil (taken old)))
   events_of old new (answer ∷ answers) (between, turn, others) =

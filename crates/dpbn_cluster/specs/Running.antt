@@ -1,24 +1,25 @@
--- The turns of a run, one after the other.
+-- The turns of a run.
 use Rattle.std.specs.Prelude.{◌≡◌, ◌++◌, ℕ, List, [], ◌∷◌, Option, None, Some, Result, Ok, Err, IfErr, IfNone, IfOk, IfSome, length}
-use Rattle.choice.specs.declared.fault.TurnFault.{TurnFault}
-use Rattle.choice.specs.declared.fault.TurnFault.TheVariants as refused
-use Rattle.events.specs.Events.{Event, StopIn, event_view, node_of}
-use Rattle.events.specs.declared.event.Event as declared
-use Rattle.events.specs.declared.event.Left.TheVariants as left
-use Rattle.ports.specs.Calls.{Call}
-use Rattle.ports.specs.Kept.{Arrived}
+use Rattle.turn_rules.specs.declared.fault.TurnFault.{TurnFault}
+use Rattle.turn_rules.specs.declared.fault.TurnFault.TheVariants as refused
+use Rattle.protocol.specs.Events.{Event, StopIn, event_view, node_of}
+use Rattle.protocol.specs.declared.event.Event as declared
+use Rattle.protocol.specs.declared.event.Left.TheVariants as left
+use Rattle.datagram_ports.specs.Calls.{Call}
+use Rattle.datagram_ports.specs.Kept.{Arrived}
 use Rattle.protocol.specs.Given.{Given}
-use Rattle.turns.specs.Calls.{HasCalled}
-use Rattle.turns.specs.Faults.{IsLeftBy, IsTurnFault}
-use Rattle.turns.specs.State.{ClusterState, taken}
-use Rattle.turns.specs.Turn.{HasHappened, IsSame, KeepsWith, OthersStay}
+use Rattle.cluster_turns.specs.Calls.{HasCalled}
+use Rattle.cluster_turns.specs.Faults.{IsLeftBy, IsTurnFault}
+use Rattle.cluster_turns.specs.State.{ClusterState, taken}
+use Rattle.cluster_turns.specs.Turn.{HasHappened, IsSame, KeepsWith, OthersStay}
 
--- what a turn answers
+-- what a turn returns
 abbrev pub Answer : Type 0
 Answer = Result (Option declared.Event) TurnFault
 
--- A turn of the cluster answered so: by the calls of its port what it did was the choice; what was
--- chosen happened, or all is as it was, or why it was refused and what that left.
+-- A turn of the cluster with this answer. By its port's calls, what it did was the choice. What was
+-- chosen happened, or everything is unchanged, or there is a refusal, with the state that it
+-- leaves.
 pub record IsTurn {D P : Type 0} (given : P → Option (List Arrived)) (does : P → Call → P → Type 0)
     (old new : ClusterState D P) (builds : Given) (answer : Answer) : Type 0 where
   pub calls : HasCalled does old new builds answer
@@ -32,8 +33,8 @@ pub record IsTurn {D P : Type 0} (given : P → Option (List Arrived)) (does : P
   pub division : new.division ≡ old.division
   pub weights : new.weights ≡ old.weights
 
--- Turns that answered so lead from one state of the cluster to the other: each next state is by a
--- turn from the one before.
+-- Turns with these answers lead from one state of the cluster to the other. Each begins in the
+-- state that the one before left.
 abbrev pub TurnsLead : {D P : Type 0} → (P → Option (List Arrived)) → (P → Call → P → Type 0)
     → Given → ClusterState D P → List Answer → ClusterState D P → Type 0
 TurnsLead given does builds old [] new = new ≡ old
@@ -41,7 +42,7 @@ TurnsLead given does builds old (answer ∷ answers) new =
     (between : _) × IsTurn given does old between builds answer
     × TurnsLead given does builds between answers new
 
--- Just so many turns led from one state to the other.
+-- Exactly this number of turns led from one state to the other.
 pub record HasRun {D P : Type 0} (given : P → Option (List Arrived))
     (does : P → Call → P → Type 0) (builds : Given) (old new : ClusterState D P) (turns : ℕ)
     : Type 0 where
@@ -49,10 +50,10 @@ pub record HasRun {D P : Type 0} (given : P → Option (List Arrived))
   pub count : length answers ≡ turns
   pub led : TurnsLead given does builds old answers new
 
--- ---- what is left of a run where the cluster is gone
+-- ---- what is known of a run after the cluster is gone
 
--- the events with which the world's went on in a turn that answered so: the one that it answered,
--- or a stop inside a step of the node that went down
+-- the events that a turn with this answer adds: the one that it returned, or a stop during a step
+-- of the node that went down
 abbrev pub GoesOnIn : Answer → List Event → Type 0
 GoesOnIn (Ok None) events = events ≡ []
 GoesOnIn (Ok (Some e)) events = events ≡ event_view e ∷ []
@@ -63,19 +64,19 @@ GoesOnIn (Err (refused.Down k)) events =
 GoesOnIn (Err refused.NotSent) events = events ≡ []
 GoesOnIn (Err refused.NotFresh) events = ⊥
 
--- These are the events of turns that answered so, in order.
+-- These are the events of turns with these answers, in order.
 abbrev pub AreEventsOf : List Answer → List Event → Type 0
 AreEventsOf [] events = events ≡ []
 AreEventsOf (answer ∷ answers) events =
     (first : List Event) × (later : List Event) × GoesOnIn answer first
     × AreEventsOf answers later × (events ≡ first ++ later)
 
--- These are the events of just so many turns.
+-- These are the events of exactly this number of turns.
 abbrev pub AreEventsOfTurns : ℕ → List Event → Type 0
 AreEventsOfTurns turns events =
     (answers : List Answer) × (length answers ≡ turns) × AreEventsOf answers events
 
--- The cluster's events after so many turns.
+-- The cluster's events after this number of turns.
 abbrev pub HasRunTo : {D P : Type 0} → (P → Option (List Arrived)) → (P → Call → P → Type 0)
     → Given → ClusterState D P → ℕ → List declared.Event → Type 0
 HasRunTo {D} {P} given does builds old turns events =

@@ -1,4 +1,4 @@
-//! The answer of `dpbn cluster` to its words.
+//! The result of `dpbn cluster`.
 ghost use Rattle.std.specs.Prelude.{◌≡◌, ◌≤◌, ◌⊎◌, ◌++◌, ◌∷◌, [], IfErr, IfOk, length, map};
 ghost use Rattle.dpbn_cluster.specs.Cluster.{
   IsClusterRefusal,
@@ -9,45 +9,43 @@ ghost use Rattle.dpbn_cluster.specs.Cluster.{
 };
 ghost use Rattle.dpbn_cluster.specs.Running.{AreEventsOfTurns, HasRunTo};
 ghost use Rattle.dpbn_node.specs.Node.{socket_refusal};
-ghost use Rattle.events.specs.Events.{event_view};
+ghost use Rattle.protocol.specs.Events.{event_view};
 ghost use Rattle.faults.specs.Bytes.{line_feed};
-ghost use Rattle.program.specs.Refusals.{IsSystemRefusal, memory_refusal};
+ghost use Rattle.program_io.specs.Refusals.{IsSystemRefusal, memory_refusal};
 ghost use Rattle.traces.specs.Written.{trace_text};
-ghost use Rattle.turns.specs.State.{IsWorldOf};
+ghost use Rattle.cluster_turns.specs.State.{IsWorldOf};
 ghost use Rattle.engine.specs.Division.{Division};
 ghost use Rattle.world.specs.World.{World, start};
 
 use crate::turning::{lines_of, run};
 use ballots::Weights;
-use choice::TurnFault;
+use cluster_turns::Cluster;
+use datagram_ports::Port;
+use dpbn_cli::Files;
 use dpbn_node::{Given, given_of_words, log_of_file};
-use dpbn_words::Files;
-use events::Event;
 use faults::Memory;
 use listing::Tree;
-use ports::Port;
-use program::{Answer, Refusal, tree_of_file};
-use protocol::Packages;
+use program_io::{Answer, Refusal, tree_of_file};
+use protocol::{Event, Packages};
 use run_file::read_run;
 use stable_record::{Disk, FileDisk};
 use std::alloc::{AllocError, Global};
 use std::fs;
 use std::io::Write;
 use traces::{Trace, write_trace};
-use turns::Cluster;
+use turn_rules::TurnFault;
 use udp::UdpPort;
 
-/// Runs all members' nodes for so many turns, and answers the line on each. What a turn refuses is
-/// told on `err`, and uses the turn up. The events that turns answered are written into the file of
-/// the trace, if one is named.
+/// Runs all members' nodes for the given number of turns, and returns the line of each. Why a turn
+/// is refused is printed on `err`; the turn counts. The turns' events are written to the trace
+/// file, if one is named.
 ///
-/// All that can be wrong is looked at before the first turn, in this order: the listing, the
-/// builds, the weights, the logs' files, whether run files stand beside them, the sockets, the
-/// logs.
+/// Everything that can be wrong is checked before the first turn, in this order: the listing, the
+/// builds, the weights, the logs' files, whether they have run files, the sockets, the logs.
 ///
 /// # Errors
 ///
-/// The first of these that is wrong; else that the trace can't be written.
+/// The first of these that is wrong; after the turns, that the trace can't be written.
 pub fn cluster_of_words<E: Write>(
     rt: &HostRuntime,
     files: &Files<'_>,
@@ -67,7 +65,7 @@ pub fn cluster_of_words<E: Write>(
     }
 }
 
-/// The lines of the nodes, after they ran on their logs.
+/// The lines of the nodes after they ran on their logs.
 fn run_on<E: Write>(
     rt: &HostRuntime,
     tree: &Tree,
@@ -162,7 +160,7 @@ fn logs_of_files(rt: &HostRuntime, folder: &str, members: u8) -> Result<Vec<File
     Ok(disks)
 }
 
-/// Refuses logs of which one has a run file beside it: a node runs on it, or did.
+/// Refuses logs if one has a run file: a node runs on it, or did.
 fn refuse_runs(rt: &HostRuntime, folder: &str, members: u8) -> Result<(), Refusal>
     ensures { IfErr result (λ r. IsSystemRefusal r ⊎ IsClusterRefusal r) }
 {
@@ -176,7 +174,7 @@ fn refuse_runs(rt: &HostRuntime, folder: &str, members: u8) -> Result<(), Refusa
     Ok(())
 }
 
-/// The port of all of them.
+/// The port of all nodes.
 fn port_of<'c>(rt: &'c HostRuntime, members: u8) -> Result<UdpPort<'c, HostRuntime>, Refusal>
     ensures { IfErr result (λ r. (r ≡ memory_refusal) ⊎ (r ≡ socket_refusal)) }
 {
@@ -186,7 +184,7 @@ fn port_of<'c>(rt: &'c HostRuntime, members: u8) -> Result<UdpPort<'c, HostRunti
     }
 }
 
-/// Writes the trace of the events into the file, if one is named.
+/// Writes the trace of the events to the file, if one is named.
 fn keep(
     rt: &HostRuntime,
     path: Option<&str>,
@@ -203,7 +201,7 @@ fn keep(
     Ok(())
 }
 
-/// The text of the trace of the events, with a line feed behind it.
+/// The trace of the events as text, with a line feed at the end.
 fn text_of(alloc: Global, weights: &Weights, events: Vec<Event>) -> Result<Vec<u8>, Memory>
     ensures { IfOk result (λ text. text.items
         ≡ trace_text (record { weights = weights.now; events = map event_view events.items })

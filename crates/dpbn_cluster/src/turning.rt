@@ -4,21 +4,20 @@ ghost use Rattle.dpbn_cluster.specs.Running.{Answer, HasRun, IsTurn};
 ghost use Rattle.dpbr_run.specs.shared.NodeLines.{HasNodeLines};
 ghost use Rattle.dpbr_run.specs.Run.{IsNodeLine};
 ghost use Rattle.std.specs.Prelude.{string_bytes};
-ghost use Rattle.turns.specs.State.{IsWorldOf};
+ghost use Rattle.cluster_turns.specs.State.{IsWorldOf};
 ghost use Rattle.world.specs.World.{World};
 
-use choice::TurnFault;
-use events::Event;
-use ports::Port;
-use program::{Refusal, node_text};
-use protocol::Packages;
+use cluster_turns::Cluster;
+use datagram_ports::Port;
+use program_io::{Refusal, node_text};
+use protocol::{Event, Packages};
 use stable_record::Disk;
 use std::alloc::{AllocError, Global};
 use std::io::Write;
-use turns::Cluster;
+use turn_rules::TurnFault;
 
-/// Takes so many turns. What a turn refuses is told on `err`; and after each so many turns, if that
-/// is wanted, the nodes' lines.
+/// Takes the given number of turns. Why a turn is refused is printed on `err`, and so are the
+/// nodes' lines after each `progress` turns, if that is set.
 pub fn run<D: Disk, P: Port, E: Write>(
     alloc: Global,
     cluster: &mut Cluster<'_, D, P>,
@@ -39,7 +38,7 @@ pub fn run<D: Disk, P: Port, E: Write>(
     }
 }
 
-/// Takes a turn, and tells why it is refused, if it is.
+/// Takes a turn, and prints why it is refused, if it is.
 fn take_turn<D: Disk, P: Port, E: Write>(
     cluster: &mut Cluster<'_, D, P>,
     builds: &Packages,
@@ -52,7 +51,7 @@ fn take_turn<D: Disk, P: Port, E: Write>(
     tell(answer, err);
 }
 
-/// Tells why a turn is refused, if it is.
+/// Prints why a turn is refused, if it is.
 fn tell<E: Write>(answer: Result<Option<Event>, TurnFault>, err: &mut E) {
     match answer {
         Ok(done) => drop(done),
@@ -62,7 +61,7 @@ fn tell<E: Write>(answer: Result<Option<Event>, TurnFault>, err: &mut E) {
     }
 }
 
-/// Tells the nodes' lines where they are due, and answers in how many turns the next ones are.
+/// Prints the nodes' lines if they are due, and returns in how many turns the next ones are.
 fn next_lines<D: Disk, P: Port, E: Write>(
     alloc: Global,
     cluster: &Cluster<'_, D, P>,

@@ -8,7 +8,7 @@ use std::io;
 use std::io::ErrorKind;
 use thiserror::Error;
 
-/// Why no key is taken from a file.
+/// Why no key can be read from a file, or written to one.
 #[derive(Clone, Copy, Debug, PartialEq, Eq, Error)]
 pub enum KeyFault {
     #[error("out of memory")]
@@ -16,11 +16,11 @@ pub enum KeyFault {
     /// The system refused to read or to write the file.
     #[error("the file can't be read or written")]
     Files,
-    /// The file is no line of 64 hexadecimal digits.
-    #[error("the file has no key")]
+    /// The file isn't a line of 64 hexadecimal digits.
+    #[error("the file doesn't contain a key")]
     NoKey,
-    /// The file can be read, written or run by others than its owner.
-    #[error("the key's file is open to others")]
+    /// Others than the file's owner may read, write or run it.
+    #[error("others may read or write the key file")]
     Exposed,
 }
 

@@ -4,8 +4,6 @@
 mod fault;
 mod making;
 mod reading;
-#[cfg(test)]
-mod tests;
 
 pub use crate::fault::KeyFault;
 pub use crate::making::{make_key, new_key_text};

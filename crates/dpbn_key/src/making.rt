@@ -1,4 +1,4 @@
-//! A new key.
+//! Making a new key.
 ghost use Rattle.std.specs.Prelude.{◌≡◌, ◌≢◌, [], IfErr, IfOk, IfSome};
 ghost use Rattle.std.specs.Path.{path_parent};
 ghost use Rattle.dpbn_key.specs.Keys.{WritesAKey};
@@ -13,16 +13,16 @@ use std::os::unix::fs::OpenOptionsExt;
 use std::path::Path;
 use std::random::RandomSource;
 
-/// A file that its owner may read and write, and nobody else.
+/// The mode of a file that only its owner may read and write.
 const PRIVATE: u32 = 0o600;
 
-/// Makes a file with a new key, which is its owner's alone, and brings it and its name to the disk.
-/// A file that has that name stays as it is. The key is had before the file is
-/// made; where a later call fails the file stays, with no key or with a part of one.
+/// Creates a file with a new key, which only its owner may read and write, and syncs it and its
+/// folder. An existing file of that name is left as it is. The key is made before the file. If a
+/// later call fails, the file stays, with no key or part of one.
 ///
 /// # Errors
 ///
-/// What the system refused; also where a file has that name.
+/// The system's refusal, also if the file exists.
 pub fn make_key(rt: &HostRuntime, file: &str) -> Result<(), KeyFault>
     ensures { IfErr result IsOfSystem }
 {
@@ -31,7 +31,7 @@ pub fn make_key(rt: &HostRuntime, file: &str) -> Result<(), KeyFault>
     Ok(())
 }
 
-/// The text of a key of random bytes. That they are random no contract says.
+/// The text of a key of random bytes. No contract says that they are random.
 pub fn new_key_text<R: RandomSource>(source: &R) -> io::Result<[u8; 65]>
     ensures { IfOk result WritesAKey }
 {
@@ -40,7 +40,7 @@ pub fn new_key_text<R: RandomSource>(source: &R) -> io::Result<[u8; 65]>
     Ok(text_of_key(&key))
 }
 
-/// Makes a file that has this text. The file and its name are on the disk then.
+/// Creates a file with this text, and syncs it and its folder.
 fn make_file(rt: &HostRuntime, path: &str, text: &[u8]) -> io::Result<()> {
     let mut options = OpenOptions::new();
     options.write(true).create_new(true).mode(PRIVATE);
@@ -50,7 +50,7 @@ fn make_file(rt: &HostRuntime, path: &str, text: &[u8]) -> io::Result<()> {
     File::open(rt, folder_of(path))?.sync_all()
 }
 
-/// The folder that the last name of a path stands in.
+/// The folder of the file at a path.
 fn folder_of(path: &str) -> &str
     ensures { IfSome (path_parent path.now) (λ folder. folder ≢ [] → result.now ≡ folder) }
 {

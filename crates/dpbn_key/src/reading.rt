@@ -1,4 +1,4 @@
-//! A key that is read from a file.
+//! Reading a key from a file.
 ghost use Rattle.std.specs.Prelude.{◌≡◌, IfErr, IfOk, OnErr, OnOk};
 ghost use Rattle.dpbn_key.specs.Keys.{IsExposed, IsWritten, RefusesKey, WritesNoKey};
 ghost use Rattle.seals.specs.KeyText.{WritesKey};
@@ -9,18 +9,18 @@ use std::fs::File;
 use std::io::Read;
 use std::os::unix::fs::MetadataExt;
 
-/// How much of a file is read at most: a byte more than the text of a key has.
+/// The maximum number of bytes that are read of a file: one more than the text of a key has.
 const MOST: u64 = 66;
 
-/// What a mode may have of others than the file's owner: nothing.
+/// The bits of a mode that concern others than the file's owner. None may be set.
 const OF_OTHERS: u32 = 0o77;
 
-/// The key in a file, which nobody but the file's owner may read, write or run. The mode is that of
-/// the file that is read, whatever its name stands for by then.
+/// Reads the key in a file, which only the file's owner may read, write or run. The mode that is
+/// tested is that of the opened file, even if the name refers to another one by then.
 ///
 /// # Errors
 ///
-/// What the system refused; else that of the mode; else that of the text.
+/// The system's refusal; that of the mode; that of the text. In this order.
 pub fn key_of_file(rt: &HostRuntime, file: &str) -> Result<[u8; 32], KeyFault>
     ensures key { IfOk result IsWritten }
     ensures refused { IfErr result RefusesKey }
@@ -32,11 +32,11 @@ pub fn key_of_file(rt: &HostRuntime, file: &str) -> Result<[u8; 32], KeyFault>
     key_in(text.as_slice())
 }
 
-/// Whether a file with this mode is its owner's alone.
+/// Tests that only its owner may use a file with this mode.
 ///
 /// # Errors
 ///
-/// `Exposed`, where it isn't.
+/// `Exposed` if others may.
 pub fn test_mode(mode: u32) -> Result<(), KeyFault>
     ensures private { OnOk result (¬ IsExposed mode) }
     ensures exposed { IfErr result (λ f. (f ≡ KeyFault.Exposed) × IsExposed mode) }
@@ -52,7 +52,7 @@ pub fn test_mode(mode: u32) -> Result<(), KeyFault>
 ///
 /// # Errors
 ///
-/// `NoKey`, where they write none.
+/// `NoKey` if they write none.
 pub fn key_in(text: &[u8]) -> Result<[u8; 32], KeyFault>
     ensures key { IfOk result (WritesKey text.now) }
     ensures no_key { IfErr result (λ f. (f ≡ KeyFault.NoKey) × WritesNoKey text.now) }

@@ -1,1 +1,3 @@
+mod RepeatLemmas
+mod RequestLemmas
 mod Shown

@@ -5,16 +5,16 @@ use Rattle.engine.specs.State.{AreCounts, State}
 use Rattle.engine.specs.declared.Counts.{Counts}
 use Rattle.faults.specs.Bytes.{Text}
 use Rattle.node.specs.State.{NodeState}
-use Rattle.program.specs.NodeLine.{IsLineOf, node_line}
+use Rattle.program_io.specs.NodeLine.{IsLineOf, node_line}
 use Rattle.protocol.specs.State.{engine_of}
 
 module _ (me : ℕ) (n : NodeState) where
-  -- its letters, as it is up or down
+  -- its letters, if it is up or down
   letters_if : (b : Bool) → n.stopped ≡ b
       → letters_of n ≡ (if b then None else Some (engine_of n.member))
   letters_if b e = ap (λ c. if c then None else Some (engine_of n.member)) e
 
-  -- what is told of it says what it shows
+  -- the line that is printed says what the node shows
   pub line_is : (o : Option Counts)
       → MatchOption o (n.stopped ≡ true)
       (λ counts. (n.stopped ≡ false) × AreCounts (engine_of n.member) counts)

@@ -1,16 +1,16 @@
--- Of which run a node is, how it begins there, and what is told where it can't.
+-- The run that a node belongs to, how it starts there, and what is reported if it can't.
 use Rattle.std.specs.Prelude.{◌≡◌, ◌≢◌, ◌≤◌, ◌⊎◌, ◌++◌, ⊤, ℕ, Bool, true, false, List, [], Option, None, Some, Ok, if◌then◌else◌, length, option_map, string_bytes}
 use Rattle.std.specs.declared.net.socket_addr.SocketAddr.{SocketAddr}
 use Rattle.std.specs.declared.rt.LibcRuntime.{LibcRuntime}
-use Rattle.choice.specs.Pending.{nothing_kept}
+use Rattle.lone_node.specs.Pending.{nothing_kept}
 use Rattle.dpbn_node.specs.Given.{AreTold}
 use Rattle.dpbn_node.specs.declared.starting.Begun.{Begun}
 use Rattle.dpbn_node.specs.declared.starting.Place.{Place}
-use Rattle.dpbn_run.specs.Keys.{IsKeyOf, RefusesKeyFile, seal_of, shown_of}
-use Rattle.dpbn_run.specs.Starts.{IsStartRefusal, owner}
-use Rattle.dpbn_words.specs.declared.Peers.{Peers}
-use Rattle.dpbn_words.specs.declared.Peers.TheVariants.{Base, Hosts}
-use Rattle.dpbn_words.specs.declared.Run.{Run}
+use Rattle.dpbn_node.specs.Keys.{IsKeyOf, RefusesKeyFile, seal_of, shown_of}
+use Rattle.dpbn_node.specs.Starts.{IsStartRefusal, owner}
+use Rattle.dpbn_cli.specs.declared.Peers.{Peers}
+use Rattle.dpbn_cli.specs.declared.Peers.TheVariants.{Base, Hosts}
+use Rattle.dpbn_cli.specs.declared.Run.{Run}
 use Rattle.engine.specs.State.{State}
 use Rattle.faults.specs.Bytes.{Text, comma}
 use Rattle.faults.specs.Pieces.{pieces_at}
@@ -20,14 +20,14 @@ use Rattle.node.specs.OnLog.{IsOnLog, identity_of, texts_of}
 use Rattle.node.specs.Refusals.{number_of}
 use Rattle.node.specs.State.{LoggedNode, NodeState}
 use Rattle.node.specs.declared.fault.NodeFault.{NodeFault}
-use Rattle.program.specs.Listings.{IsDescribed}
-use Rattle.program.specs.Refusals.{IsSystemRefusal, memory_refusal}
-use Rattle.program.specs.declared.refusal.Refusal.{Refusal}
+use Rattle.program_io.specs.Listings.{IsDescribed}
+use Rattle.program_io.specs.Refusals.{IsSystemRefusal, memory_refusal}
+use Rattle.program_io.specs.declared.refusal.Refusal.{Refusal}
 use Rattle.protocol.specs.State.{engine_of}
 use Rattle.run_file.specs.Starts.{IsStarted}
-pub use Rattle.solo.specs.Handed.{SoFar}
-pub use Rattle.solo.specs.State.{SoloState}
-pub use Rattle.solo.specs.Turns.{IsTurn, Outcome}
+pub use Rattle.lone_node.specs.Handed.{SoFar}
+pub use Rattle.lone_node.specs.State.{SoloState}
+pub use Rattle.lone_node.specs.Turns.{IsTurn, Outcome}
 use Rattle.stable_record.specs.Crash.{AllAlong}
 use Rattle.stable_record.specs.History.{seen}
 use Rattle.stable_record.specs.Opening.{Opens, OpensAsLeft}
@@ -46,16 +46,17 @@ use Rattle.udp.specs.declared.udp_port.UdpPort.{UdpPort}
 abbrev pub letters_of : NodeState → Option State
 letters_of n = if n.stopped then None else Some (engine_of n.member)
 
--- a node whose log is a file, and whose peers are elsewhere: what it keeps, and its port
+-- a node whose log is a file and whose peers run elsewhere, with its state between turns and its
+-- port
 abbrev pub Running : Type 0
 Running = SoloState FileDisk (UdpPort LibcRuntime)
 
--- the port vouches for this text: the bytes as which it comes are among those that came
+-- the port vouches for this text: the bytes that encode it are among those received
 abbrev pub port_vouches : UdpPort LibcRuntime → Text → Type 0
 port_vouches port text = is_vouched_for port.inbox.key port.inbox.came text ≡ true
 
--- The port handed the system all that waited to leave, in order and each once, and nothing else.
--- It is so set up as it was, nothing came, and the key stays.
+-- The port handed all queued datagrams to the system, in order and each once, and nothing else. Its
+-- configuration and keys are unchanged, and nothing was received.
 pub record HasFlushed (old new : Running) : Type 0 where
   pub same : new ≡ record old { port = new.port }
   pub setup : setup_of new.port ≡ setup_of old.port
@@ -65,8 +66,8 @@ pub record HasFlushed (old new : Running) : Type 0 where
   pub handed : new.port.handed.all
       ≡ old.port.handed.all ++ texts_that_wait old.port.leaving.waiting.items
 
--- The node is the member's, over the tree, among members that weigh so much, as the notes of this
--- log restore it. As long as the file does what its history says: these are the log's notes, the
+-- The node is the member's, over the tree, among members with these weights, as restored from this
+-- log's notes. Suppose the file does what its history says. Then these are the log's notes, the
 -- node has them on it, and a crash while it was opened left what a crash before could leave.
 pub record IsNodeOf (tree : Tree) (weights : List ℕ) (me : ℕ) (log : FileDisk)
     (n : LoggedNode FileDisk) : Type 0 where
@@ -78,7 +79,8 @@ pub record IsNodeOf (tree : Tree) (weights : List ℕ) (me : ℕ) (log : FileDis
       (OpensAsLeft (identity_of n.node.member) (file_history log)) (file_history log)
       (file_history n.log.disk)
 
--- So it is of the member's node, which was opened on this log, kept nothing yet, and has this port.
+-- `Is` holds of the member's node, which was opened on this log, with no state from earlier turns
+-- and this port.
 pub record IsOfNodeOn (log : FileDisk) (port : UdpPort LibcRuntime) (tree : Tree)
     (weights : List ℕ) (me : ℕ) (Is : Running → Type 0) : Type 0 where
   pub node : LoggedNode FileDisk
@@ -87,9 +89,9 @@ pub record IsOfNodeOn (log : FileDisk) (port : UdpPort LibcRuntime) (tree : Tree
 
 -- ---- runs
 
--- Of which run a node is: over which tree, what its members weigh, where they listen, and its key,
--- if it has one; then whether all who send are heard where it has none, and whether a log of it has
--- to be there.
+-- The run that a node belongs to: the tree, the members' weights and addresses, the key if there is
+-- one, whether datagrams from any address are accepted if there is none, and whether a log must
+-- already exist.
 pub record RunOf : Type 0 where
   pub tree : Tree
   pub weights : List ℕ
@@ -103,17 +105,17 @@ abbrev pub is_local : Peers → Bool
 is_local (Base port) = true
 is_local (Hosts text) = false
 
--- So many members listen where the words say: on this host, by the first port, or at the hosts that
--- the text writes.
+-- These are the addresses of this many members that the arguments describe: on this host, from the
+-- first port on, or the hosts that the text writes.
 abbrev pub Listen : Peers → ℕ → List SocketAddr → Type 0
 Listen (Base port) members addresses = (length addresses ≡ members) × AreLocal port addresses
 Listen (Hosts text) members addresses =
     (length addresses ≡ members) × WriteHosts (pieces_at comma text.now) addresses
 
--- So the words say, of so many members with these weights, if they are told: a listing describes
--- the tree, in which each path is a group of its own or not, so many members weigh what is told
--- and listen there, and the key is that of the file. Strangers are heard where all members are on
--- one host alone.
+-- The run is the one that the arguments describe. A listing describes the tree, in which each path
+-- is a group of its own if `is_single`. The weights, the addresses and the key are those of the
+-- arguments. Unless there is a key, datagrams from strangers are accepted if all members are on one
+-- host.
 pub record IsRunOf (is_single : Bool) (members : ℕ) (weights : Option Text) (peers : Peers)
     (run : Run) (of : RunOf) : Type 0 where
   pub described : IsDescribed is_single of.tree
@@ -123,7 +125,7 @@ pub record IsRunOf (is_single : Bool) (members : ℕ) (weights : Option Text) (p
   pub open_to : of.is_open ≡ is_local peers
   pub continued : of.is_continued ≡ run.is_continued
 
--- the run that a node is of at this place
+-- the run of a node at this place
 abbrev pub run_at : Tree → List ℕ → Place → RunOf
 run_at tree weights place = record {
   tree = tree;
@@ -134,30 +136,31 @@ run_at tree weights place = record {
   is_continued = place.is_continued;
 }
 
--- The port seals what leaves it, and opens what comes, under the run's key, if there is one; and
--- then it hears no strangers, nor where they are not to be heard.
+-- The port seals what it sends, and opens what it receives, with the run's key, if there is one. It
+-- accepts no datagrams from strangers if there is a key, or if the run doesn't accept them.
 pub record IsGuarded (of : RunOf) (port : UdpPort LibcRuntime) : Type 0 where
   pub opens : port.inbox.key ≡ seal_of of.tree of.weights of.key
   pub seals : port.outbox.key ≡ seal_of of.tree of.weights of.key
   pub sealed : of.key ≢ None → port.is_open ≡ false
   pub closed : of.is_open ≡ false → port.is_open ≡ false
 
--- The port is that of the member's node alone: it sits at its address among those of the run, and
--- sends to those of the others.
+-- The port has only the member's node: it listens at its address among those of the run, and sends
+-- to the others' addresses.
 pub record IsSeated (of : RunOf) (me : ℕ) (port : UdpPort LibcRuntime) : Type 0 where
   pub seat : IsSeatOf port.seats.items me 0
   pub lone : length port.seats.items ≡ 1
   pub addresses : port.addresses.items ≡ of.addresses
 
--- A start in the run was made for the member, and the port is its own and guards the run.
+-- A start in the run was made for the member, and the port is its own and accepts only what the run
+-- allows.
 pub record HasBegun (of : RunOf) (me : ℕ) (begun : Begun) : Type 0 where
   pub started : IsStarted (owner of.tree of.weights me) (shown_of of.key) of.is_continued
       (option_map string_bytes begun.start.unwritten)
   pub seated : IsSeated of me begun.port
   pub guarded : IsGuarded of begun.port
 
--- So it is of the member's node, which was opened on the log on which a start in the run was made,
--- kept nothing yet, and has a port of its own that guards the run.
+-- `Is` holds of the member's node, which was opened on the log of a start in the run. The node has
+-- no state from earlier turns, and a port of its own that accepts only what the run allows.
 pub record IsOfNode (of : RunOf) (me : ℕ) (Is : Running → Type 0) : Type 0 where
   pub begun : Begun
   pub has_begun : HasBegun of me begun
@@ -170,15 +173,15 @@ AreGood (Hosts text) = ⊤
 
 -- ---- refusals
 
--- the hosts are none of so many members, by the first of them that is bad; a first port is never
--- refused
+-- the text doesn't have hosts for this many members, and this is the first bad one; a first port is
+-- never refused
 abbrev pub IsHostsRefusal : ℕ → Peers → Refusal → Type 0
 IsHostsRefusal members (Base port) r = ⊥
 IsHostsRefusal members (Hosts text) r =
     (n : ℕ) × IsFirstBad members (pieces_at comma text.now) n
     × (r ≡ record { number = 1206; place = Some n })
 
--- what is told of the key's file, and then of the hosts, or memory was wanting
+-- what is reported about the key's file or the hosts, or memory ran out
 abbrev pub RefusesPlace : ℕ → Peers → Run → Refusal → Type 0
 RefusesPlace members peers run r =
     RefusesKeyFile (option_map (λ t. t.now) run.key) r
@@ -188,15 +191,15 @@ RefusesPlace members peers run r =
 abbrev pub member_refusal : Refusal
 member_refusal = record { number = 909; place = None }
 
--- the address of the member can't be had
+-- the member's address isn't available
 abbrev pub socket_refusal : Refusal
 socket_refusal = record { number = 1204; place = None }
 
--- the log opens as no node of the member
+-- the log can't be opened as a node of the member
 abbrev pub IsLogRefusal : Refusal → Type 0
 IsLogRefusal r = (f : NodeFault) × (r ≡ record { number = number_of f; place = None })
 
--- what is told of the member's number, the start on the log, the socket, and then the log
+-- what is reported about the member's number, the start on the log, the socket, or the log
 abbrev pub RefusesStart : ℕ → RunOf → Refusal → Type 0
 RefusesStart me of r =
     IsSystemRefusal r
@@ -204,6 +207,6 @@ RefusesStart me of r =
     ⊎ (IsStartRefusal (owner of.tree of.weights me) (shown_of of.key) of.is_continued r
     ⊎ ((r ≡ socket_refusal) ⊎ IsLogRefusal r)))
 
--- that of the system, where the run file can't be written or memory is wanting; or of the log
+-- the system's refusal if the run file can't be written, out of memory, or the log's refusal
 abbrev pub RefusesOnLog : Refusal → Type 0
 RefusesOnLog r = IsSystemRefusal r ⊎ IsLogRefusal r

@@ -1,31 +1,31 @@
-//! The answer of `dpbn node` to its words.
+//! The result of `dpbn node`.
 ghost use Rattle.std.specs.Prelude.{◌≡◌, ◌<◌, ◌≤◌, IfErr, IfOk, length, string_bytes};
 ghost use Rattle.dpbn_node.specs.Node.{IsLineAfter, IsNodeText, IsShown, IsShownOn, RefusesNode};
 ghost use Rattle.dpbn_node.specs.Runs.{AreGood, RefusesOnLog, RefusesStart, letters_of, run_at};
-ghost use Rattle.program.specs.NodeLine.{IsLineOf};
+ghost use Rattle.program_io.specs.NodeLine.{IsLineOf};
 
 use crate::given::{Given, given_of_words};
 use crate::starting::{Begun, Place, begin, open, place_of_words};
 use crate::turning::run;
-use dpbn_run::{Telling, write_unwritten};
-use dpbn_words::{Files, Peers, Run};
+use crate::{Telling, write_unwritten};
+use datagram_ports::Port;
+use dpbn_cli::{Files, Peers, Run};
 use listing::Tree;
-use ports::Port;
-use program::{Answer, Refusal, node_text, tree_of_file};
+use lone_node::Solo;
+use program_io::{Answer, Refusal, node_text, tree_of_file};
 use protocol::Packages;
 use run_file::Start;
-use solo::Solo;
 use stable_record::{Disk, FileDisk};
 use std::alloc::{AllocError, Global};
 use std::io::Write;
 use udp::UdpPort;
 
-/// Runs the member's node for so many turns, and answers the line on it. What a turn refuses is
-/// told on `err`, and uses the turn up.
+/// Runs the member's node for the given number of turns, and returns its line. Why a turn is
+/// refused is printed on `err`; the turn counts.
 ///
-/// All that can be wrong is looked at before the first turn, in this order: the listing, the
-/// builds, the weights, the key's file, the hosts, the member, the log's file and the run file
-/// beside it, the socket, the log, and whether the run file can be written.
+/// Everything that can be wrong is checked before the first turn, in this order: the listing, the
+/// builds, the weights, the key's file, the hosts, the member, the log's file and its run file, the
+/// socket, the log, and whether the run file can be written.
 ///
 /// # Errors
 ///
@@ -57,7 +57,7 @@ pub fn node_of_words<E: Write>(
     }
 }
 
-/// The line of the member's node, after it ran on its log.
+/// The line of the member's node after it ran on its log.
 fn run_on<E: Write>(
     rt: &HostRuntime,
     tree: &Tree,
@@ -81,14 +81,14 @@ fn run_on<E: Write>(
     node_on_log(rt, start, port, tree, given, files, me, telling, err)
 }
 
-/// Opens the member's node on its log, writes its run file if that is still to be written, takes
-/// its turns, and answers the line on it. That is so whatever is known of the log's file before:
-/// what its disk says of it, as long as the file does what that says.
+/// Opens the member's node on its log, writes its run file if that isn't written yet, takes its
+/// turns, and returns its line. This holds whatever is known of the log's file before: what its
+/// disk says of it, if the file does what that says.
 ///
 /// # Errors
 ///
-/// Why the log opens as no node of the member; else why the run file can't be written; else want of
-/// memory for the line.
+/// Why the log can't be opened as a node of the member; why the run file can't be written; out of
+/// memory for the line. In this order.
 pub fn node_on_log<E: Write>(
     rt: &HostRuntime,
     start: Start,
@@ -123,7 +123,7 @@ pub fn node_on_log<E: Write>(
     }
 }
 
-/// The line of the node, after it took its turns.
+/// The line of the node after it took its turns.
 fn line_after<E: Write>(
     alloc: Global,
     solo: Solo<'_, FileDisk, UdpPort<'_, HostRuntime>>,
@@ -142,7 +142,7 @@ fn line_after<E: Write>(
     line_of(alloc, &solo, me)
 }
 
-/// The line of the node as it is.
+/// The line of the node in its present state.
 fn line_of<D: Disk, P: Port>(
     alloc: Global,
     solo: &Solo<'_, D, P>,

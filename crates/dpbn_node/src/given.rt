@@ -1,31 +1,31 @@
-//! What a node is started with.
+//! The builds and weights that a node is started with.
 ghost use Rattle.std.specs.Prelude.{◌≡◌, ◌∷◌, ◌≤◌, IfErr, IfOk, Some, option_map, string_bytes, true};
 ghost use Rattle.dpbn_node.specs.Node.{RefusesGiven};
 ghost use Rattle.dpbn_node.specs.Given.{AreTold, RefusesWeights, weights_refusal, with_commas};
-ghost use Rattle.program.specs.Refusals.{IsSystemRefusal};
-ghost use Rattle.trace_files.specs.Builds.{AreBuilds};
+ghost use Rattle.program_io.specs.Refusals.{IsSystemRefusal};
+ghost use Rattle.input_files.specs.Builds.{AreBuilds};
 
 use arrayvec::ArrayVec;
 use ballots::Weights;
-use dpbn_words::Files;
-use program::Refusal;
+use dpbn_cli::Files;
+use input_files::builds_of_file;
+use program_io::Refusal;
 use protocol::Packages;
 use stable_record::FileDisk;
 use std::alloc::{AllocError, Global};
-use trace_files::builds_of_file;
 
-/// What nodes build from, and what their members weigh.
+/// The builds that nodes use, and the members' weights.
 #[derive(Drop)]
 pub struct Given {
     pub builds: Packages,
     pub weights: Weights,
 }
 
-/// The builds in the file and the weights, as the words have them.
+/// The builds in the file and the weights, as the arguments have them.
 ///
 /// # Errors
 ///
-/// That of the builds; else that of the weights.
+/// Those of the builds, and then those of the weights.
 pub fn given_of_words(rt: &HostRuntime, files: &Files<'_>) -> Result<Given, Refusal>
     requires few { files.now.members ≤ 9 }
     ensures builds { IfOk result (λ given. AreBuilds given.builds) }
@@ -38,12 +38,13 @@ pub fn given_of_words(rt: &HostRuntime, files: &Files<'_>) -> Result<Given, Refu
     Ok(Given { builds, weights })
 }
 
-/// What so many members weigh: 1 each, unless it is told, with commas between the weights.
+/// The weights of this many members: those in the text, separated by commas, or 1 each if there is
+/// none.
 ///
 /// # Errors
 ///
-/// Memory; that of bad weights, also where they aren't as many as members, or a weight is not
-/// spelled as a number is printed.
+/// Out of memory; bad weights, also if there aren't as many weights as members, or a weight isn't
+/// written as a number is printed.
 pub fn weights_of_words(alloc: Global, members: u8, told: Option<&str>) -> Result<Weights, Refusal>
     requires { members ≤ 9 }
     ensures ok { IfOk result (λ w. AreTold members (option_map (λ t. t.now) told.entry) w) }
@@ -55,7 +56,7 @@ pub fn weights_of_words(alloc: Global, members: u8, told: Option<&str>) -> Resul
     }
 }
 
-/// The weights that the text tells of so many members.
+/// The weights of this many members that the text has.
 fn weights_of_text(alloc: Global, members: u8, told: &str) -> Result<Weights, Refusal>
     ensures ok { IfOk result (λ w. AreTold members (Some told.now) w) }
     ensures refused { IfErr result RefusesWeights }
@@ -67,7 +68,7 @@ fn weights_of_text(alloc: Global, members: u8, told: &str) -> Result<Weights, Re
     weights_of(weights.as_slice())
 }
 
-/// The numbers that stand between commas, at most nine; 0 for what is none.
+/// The numbers between commas, at most nine; 0 for a part that isn't a number.
 fn numbers_in(told: &str) -> ArrayVec<u8, 9> {
     let mut numbers = ArrayVec::new();
     for part in told.split(',') {
@@ -78,7 +79,7 @@ fn numbers_in(told: &str) -> ArrayVec<u8, 9> {
     numbers
 }
 
-/// Whether the text has just these numbers, with commas between them.
+/// Whether the text has exactly these numbers, separated by commas.
 fn is_told(alloc: Global, numbers: &[u8], told: &str) -> Result<bool, AllocError>
     ensures { IfOk result (λ is. is ≡ true → with_commas numbers.now ≡ 44 ∷ told.now) }
 {
@@ -87,7 +88,7 @@ fn is_told(alloc: Global, numbers: &[u8], told: &str) -> Result<bool, AllocError
     Ok(spelled.as_bytes() == told.as_bytes())
 }
 
-/// The numbers, each with a comma before it.
+/// The numbers, each after a comma.
 fn text_of(alloc: Global, numbers: &[u8]) -> Result<String, AllocError>
     ensures { IfOk result (λ text. string_bytes text ≡ with_commas numbers.now) }
 {
@@ -100,7 +101,7 @@ fn text_of(alloc: Global, numbers: &[u8]) -> Result<String, AllocError>
     Ok(text)
 }
 
-/// Members that weigh so much.
+/// The weights, if they are valid.
 fn weights_of(weights: &[u8]) -> Result<Weights, Refusal>
     ensures ok { IfOk result (λ w. w ≡ weights.now) }
     ensures refused { IfErr result (λ r. r ≡ weights_refusal) }
@@ -111,7 +112,7 @@ fn weights_of(weights: &[u8]) -> Result<Weights, Refusal>
     }
 }
 
-/// How bad weights are told.
+/// How bad weights are reported.
 fn bad_weights() -> Refusal
     ensures { result ≡ weights_refusal }
 {
@@ -121,13 +122,13 @@ fn bad_weights() -> Refusal
     }
 }
 
-/// The disk of the member's log, which is a file in this folder. A file that isn't there is made;
-/// the folder has to be there. The file is locked as long as the disk is open, so that a second
-/// node on it is refused before it reads or cuts anything.
+/// The disk of the member's log, which is a file in this folder. The folder must exist; the file is
+/// created if it doesn't. The file is locked while the disk is open, so that a second node on it is
+/// refused before it reads or cuts anything.
 ///
 /// # Errors
 ///
-/// What the system refused; that the file is locked is told as one that can't be read.
+/// The system's refusal. A locked file is reported as one that can't be read.
 pub fn log_of_file(rt: &HostRuntime, folder: &str, me: u8) -> Result<FileDisk, Refusal>
     ensures { IfErr result IsSystemRefusal }
 {
@@ -139,7 +140,7 @@ pub fn log_of_file(rt: &HostRuntime, folder: &str, me: u8) -> Result<FileDisk, R
     }
 }
 
-/// Where the member's log stands.
+/// The path of the member's log.
 fn path_of(alloc: Global, folder: &str, me: u8) -> Result<String, AllocError> {
     format!(in alloc; "{folder}/node-{me}.log")
 }

@@ -1,12 +1,25 @@
-//! What `dpbn node` does: one member's node runs on its log, and hears its peers over UDP.
+//! What `dpbn node` does: one member's node runs on its log and hears its peers over UDP; and what
+//! each run of a node needs: its key, its peers, the log on which it starts, and its messages.
 #![tactic(auto)]
 
 mod answering;
 mod given;
+mod identity;
+mod laws;
+mod repeats;
+mod sealing;
 mod starting;
+mod telling;
 mod turning;
 
 pub use crate::answering::{node_of_words, node_on_log};
 pub use crate::given::{Given, given_of_words, log_of_file, weights_of_words};
+pub use crate::identity::{identity_of, start_of, write_unwritten};
+pub use crate::laws::faults_are_counted;
+pub use crate::repeats::{Repeated, Repeats};
+pub use crate::sealing::{Sealing, front_of_requests, key_of_words};
 pub use crate::starting::{Begun, Place, begin, open, place_of_words};
-pub use solo::{Act, Solo, TurnFault};
+pub use crate::telling::Telling;
+pub use datagram_ports::{MemPort, Port};
+pub use lone_node::{Act, Solo, TurnFault};
+pub use udp::UdpPort;

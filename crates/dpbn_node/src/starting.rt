@@ -1,5 +1,4 @@
-//! How a member's node begins: of which run it is, where it stands among its peers, and its log and
-//! port.
+//! How a member's node starts: its run, its place among its peers, its log and its port.
 ghost use Rattle.std.specs.Prelude.{◌≡◌, ◌<◌, ◌≤◌, ◌⊎◌, IfErr, IfOk, length, option_map};
 ghost use Rattle.dpbn_node.specs.Runs.{
   AreGood,
@@ -15,42 +14,42 @@ ghost use Rattle.dpbn_node.specs.Runs.{
   run_at,
   socket_refusal,
 };
-ghost use Rattle.dpbn_run.specs.Keys.{IsKeyOf};
-ghost use Rattle.program.specs.Refusals.{memory_refusal};
+ghost use Rattle.dpbn_node.specs.Keys.{IsKeyOf};
+ghost use Rattle.program_io.specs.Refusals.{memory_refusal};
 ghost use Rattle.udp.specs.Ways.{IsSeatOf};
 
+use crate::{Sealing, identity_of, key_of_words, start_of};
 use ballots::Weights;
-use dpbn_run::{Sealing, identity_of, key_of_words, start_of};
-use dpbn_words::{Peers, Run};
+use dpbn_cli::{Peers, Run};
 use listing::Tree;
 use node::Node;
-use program::Refusal;
+use program_io::Refusal;
 use run_file::Start;
 use stable_record::FileDisk;
 use std::alloc::Global;
 use std::net::SocketAddr;
 use udp::{Guard, UdpPort, loopback, parse_hosts};
 
-/// For how many milliseconds a turn waits for a datagram, where it isn't told.
+/// The default number of milliseconds that a turn waits for a datagram.
 const PATIENCE: u16 = 20;
 
-/// Where a node stands among its peers, and of which run it is.
+/// A node's place among its peers, and its run.
 #[derive(Drop)]
 pub struct Place {
     pub sealing: Sealing,
-    /// Where the members listen, by number.
+    /// The addresses where the members listen, by number.
     pub addresses: Vec<SocketAddr>,
-    /// For how many milliseconds a turn waits for a datagram.
+    /// The number of milliseconds that a turn waits for a datagram.
     pub patience: u16,
-    /// Whether a log of the run has to be there.
+    /// Whether a log of the run must already exist.
     pub is_continued: bool,
 }
 
-/// The place that the words tell.
+/// The place that the arguments describe.
 ///
 /// # Errors
 ///
-/// That of the key's file; else that of the hosts.
+/// Those of the key's file, and then those of the hosts.
 pub fn place_of_words(
     rt: &HostRuntime,
     members: u8,
@@ -91,7 +90,7 @@ fn is_local(peers: &Peers<'_>) -> bool
     }
 }
 
-/// Where the members listen.
+/// The addresses where the members listen.
 fn addresses_of(alloc: Global, members: u8, peers: &Peers<'_>) -> Result<Vec<SocketAddr>, Refusal>
     requires few { members ≤ 9 }
     requires peers { AreGood peers.now }
@@ -109,21 +108,21 @@ fn addresses_of(alloc: Global, members: u8, peers: &Peers<'_>) -> Result<Vec<Soc
     }
 }
 
-/// What a node begins with.
+/// The log and the port of a node that starts.
 #[derive(Drop)]
 pub struct Begun<'c> {
-    /// The log on which it starts.
+    /// The log that it starts on.
     pub start: Start,
     pub port: UdpPort<'c, HostRuntime>,
 }
 
-/// What the member's node begins with at this place, in the run over the tree among members that
-/// weigh so much. No byte of a file in the folder is written yet.
+/// Prepares the log and the port of the member's node at this place, in the run over the tree,
+/// among members with these weights. Nothing is written to a file in the folder yet.
 ///
 /// # Errors
 ///
-/// That no member has the number; else why it can't start on its log; else that its address can't
-/// be had.
+/// That no member has the number; why the node can't start on its log; that its address isn't
+/// available. In this order.
 pub fn begin<'c>(
     rt: &'c HostRuntime,
     tree: &Tree,
@@ -157,7 +156,7 @@ fn not_a_member() -> Refusal
     }
 }
 
-/// The port of the member's node, which lets in what the guard does.
+/// The port of the member's node, with this guard.
 fn port_of<'c>(
     rt: &'c HostRuntime,
     addresses: Vec<SocketAddr>,
@@ -180,12 +179,12 @@ fn port_of<'c>(
     }
 }
 
-/// The member's node on its log. That is so whatever is known of the log's file before: what its
-/// disk says of it, as long as the file does what that says.
+/// Opens the member's node on its log. This holds whatever is known of the log's file before: what
+/// its disk says of it, if the file does what that says.
 ///
 /// # Errors
 ///
-/// Why the log opens as no node of the member.
+/// Why the log can't be opened as a node of the member.
 pub fn open<'a>(
     alloc: Global,
     disk: FileDisk,

@@ -1,23 +1,23 @@
 //! The turns of a node.
 ghost use Rattle.std.specs.Prelude.{◌≡◌};
 ghost use Rattle.dpbn_node.specs.Node.{HasRun};
-ghost use Rattle.solo.specs.Handed.{AllBuilds};
-ghost use Rattle.solo.specs.Turns.{HaveTurned, IsTurn, Outcome};
+ghost use Rattle.lone_node.specs.Handed.{AllBuilds};
+ghost use Rattle.lone_node.specs.Turns.{HaveTurned, IsTurn, Outcome};
 
-use dpbn_run::Telling;
-use ports::Port;
-use program::Refusal;
+use crate::Telling;
+use datagram_ports::Port;
+use lone_node::Solo;
+use program_io::Refusal;
 use protocol::Packages;
-use solo::Solo;
 use stable_record::{Disk, FileDisk};
 use std::alloc::Global;
 use std::io::Write;
 use std::time::Clock;
 use udp::{Tallies, UdpPort};
 
-/// A port that counts what it sees of the members.
+/// A port that keeps statistics about members.
 pub(crate) trait Counting {
-    /// What it saw of them.
+    /// These statistics.
     fn seen(&self) -> &Tallies;
 }
 
@@ -27,8 +27,8 @@ impl<'c, C: Clock> Counting for UdpPort<'c, C> {
     }
 }
 
-/// Takes so many turns, and then sends what waits to leave. What a turn refuses is told on `err`,
-/// and so is what else is to be told as it goes.
+/// Takes the given number of turns, and then sends all queued datagrams. Why a turn is refused is
+/// printed on `err`, and so are the other lines that are due.
 pub fn run<E: Write>(
     alloc: Global,
     solo: &mut Solo<'_, FileDisk, UdpPort<'_, HostRuntime>>,
@@ -44,7 +44,7 @@ pub fn run<E: Write>(
     telling.tell_members(solo.port().seen(), err);
 }
 
-/// Takes so many turns.
+/// Takes the given number of turns.
 fn take_turns<D: Disk, P: Port + Counting, E: Write>(
     alloc: Global,
     solo: &mut Solo<'_, D, P>,
@@ -62,7 +62,7 @@ fn take_turns<D: Disk, P: Port + Counting, E: Write>(
     }
 }
 
-/// Takes a turn, and tells why it is refused, if it is.
+/// Takes a turn, and prints why it is refused, if it is.
 fn take_turn<D: Disk, P: Port, E: Write>(
     solo: &mut Solo<'_, D, P>,
     builds: &Packages,
@@ -78,7 +78,7 @@ fn take_turn<D: Disk, P: Port, E: Write>(
     }
 }
 
-/// Tells what is due behind a turn.
+/// Prints what is due after a turn.
 fn tell_turn<D: Disk, P: Port + Counting, E: Write>(
     alloc: Global,
     solo: &mut Solo<'_, D, P>,

@@ -1,18 +1,18 @@
-//! The answer of `dpbr audit` to its files. The program ends once it is printed, so the tree is
-//! left to the system, which takes that memory back at once.
+//! The result of `dpbr audit` for its files. The program ends after it is printed, so the tree
+//! isn't freed here; the system does that at once.
 ghost use Rattle.std.specs.Prelude.{◌≡◌, ◌⊎◌, IfErr, IfOk};
 ghost use Rattle.dpbr_audit.specs.Audit.{IsAudit, IsAuditOf, RefusesAuditFiles, RefusesList};
 ghost use Rattle.faults.specs.Bytes.{Text};
-ghost use Rattle.program.specs.Files.{RefusesAt};
+ghost use Rattle.program_io.specs.Files.{RefusesAt};
 
 use crate::text::{audit_list, status_after, verdict_text};
 use listing::Tree;
-use program::{Answer, NamedTexts, Refusal, tree_of_name};
+use program_io::{Answer, NamedTexts, Refusal, tree_of_name};
 use std::alloc::Global;
 use std::mem::forget;
 
-/// The answer to the listing and the list of packages of these names. The listing is read before
-/// the other.
+/// The verdict for the listing and the list of packages with these names. The listing is read
+/// first.
 pub fn audit_of_files<T: NamedTexts>(
     texts: &T,
     alloc: Global,
@@ -32,7 +32,7 @@ pub fn audit_of_files<T: NamedTexts>(
     answer
 }
 
-/// The answer to a tree and the list of packages in the text of this name.
+/// The verdict for a tree and the list of packages with this name.
 fn audit_in_file<T: NamedTexts>(
     texts: &T,
     alloc: Global,

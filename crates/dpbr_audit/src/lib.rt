@@ -1,4 +1,4 @@
-//! What `dpbr audit` does: from a listing and a list of packages to the verdict on the list.
+//! What `dpbr audit` does: it finds the verdict on a list of packages, given a listing.
 #![tactic(auto)]
 
 mod files;
@@ -9,4 +9,4 @@ pub use crate::files::audit_of_files;
 pub use crate::text::{audit_list, verdict_text};
 pub use crate::texts::audit_of_texts;
 pub use auditing::{Entry, Reason, Verdict, audit};
-pub use lists::{ListFault, list_text, lists_and_faults, read_list};
+pub use package_lists::{ListFault, list_text, lists_and_faults, read_list};

@@ -1,14 +1,14 @@
 //! The text of `dpbr audit`.
 ghost use Rattle.std.specs.Prelude.{◌≡◌, ◌⊎◌, IfErr, IfOk, string_bytes};
-ghost use Rattle.lists.specs.List.{IsFirstBadLine};
+ghost use Rattle.package_lists.specs.List.{IsFirstBadLine};
 ghost use Rattle.dpbr_audit.specs.Audit.{IsVerdictOn, no_line, reason_text, status_of, verdict_line};
 
 use auditing::{Reason, Verdict, audit};
 use listing::Tree;
-use lists::{ListFault, read_list};
+use package_lists::{ListFault, read_list};
 use std::alloc::{AllocError, Global};
 
-/// The verdict on the list of packages that the text is.
+/// The verdict on the list of packages in the text.
 pub fn audit_list(alloc: Global, tree: &Tree, list: &[u8]) -> Result<Verdict, ListFault>
     ensures ok { IfOk result (IsVerdictOn tree.now list.now) }
     ensures refused { IfErr result (λ e. (e ≡ ListFault.Memory) ⊎ IsFirstBadLine list.now e) }
@@ -18,7 +18,7 @@ pub fn audit_list(alloc: Global, tree: &Tree, list: &[u8]) -> Result<Verdict, Li
     Ok(verdict)
 }
 
-/// The verdict as it is printed, a line.
+/// The verdict as a line.
 pub fn verdict_text(alloc: Global, verdict: Verdict) -> Result<String, AllocError>
     ensures { IfOk result (λ text. string_bytes text ≡ verdict_line verdict) }
 {
@@ -47,7 +47,7 @@ fn reason_words(reason: Reason) -> &'static str
     }
 }
 
-/// The status with which the program ends.
+/// The exit status after a verdict.
 pub fn status_after(verdict: Verdict) -> u8
     ensures { result ≡ status_of verdict }
 {

@@ -1,19 +1,19 @@
-//! The verdict of `dpbr audit` on two texts.
+//! The verdict of `dpbr audit` for two texts.
 ghost use Rattle.std.specs.Prelude.{◌≡◌, ◌⊎◌, IfErr, IfOk};
 ghost use Rattle.dpbr_audit.specs.Audit.{IsVerdictOnListing, RefusesAudit};
-ghost use Rattle.program.specs.Listings.{rules_for};
-ghost use Rattle.program.specs.Refusals.{memory_refusal};
+ghost use Rattle.program_io.specs.Listings.{rules_for};
+ghost use Rattle.program_io.specs.Refusals.{memory_refusal};
 
 use crate::text::audit_list;
 use auditing::Verdict;
-use program::{Refusal, tree_of_text};
+use program_io::{Refusal, tree_of_text};
 use std::alloc::Global;
 
-/// The verdict of `dpbr audit` on a list of packages, by a listing.
+/// The verdict of `dpbr audit` on a list of packages, given a listing.
 ///
 /// # Errors
 ///
-/// Memory; else the listing's fault; else that of the list.
+/// Out of memory; the listing's fault; that of the list. In this order.
 pub fn audit_of_texts(
     alloc: Global,
     listing: &[u8],

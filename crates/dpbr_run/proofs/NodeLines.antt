@@ -5,7 +5,7 @@ use Rattle.std.proofs.lemmas.List.{append-nil, length-append}
 use Rattle.engine.specs.State.{AreCounts, State}
 use Rattle.engine.specs.declared.Counts.{Counts}
 use Rattle.faults.specs.Bytes.{Text}
-use Rattle.program.specs.NodeLine.{IsLineOf, node_line}
+use Rattle.program_io.specs.NodeLine.{IsLineOf, node_line}
 use Rattle.protocol.specs.State.{engine_of}
 use Rattle.dpbr_run.specs.shared.NodeLines.{HasNodeLines}
 use Rattle.dpbr_run.specs.Run.{IsNodeLine, letters_at}
@@ -14,7 +14,7 @@ use Rattle.world.specs.World.{World, WorldNode, member_at}
 
 -- ---- one node
 
--- what a node shows, once it is known whether it is up
+-- what a node shows, given whether it is up
 shown : (w : World) (k : ℕ) (b : Bool) → is_up w k ≡ b → (x : WorldNode) → slice_get w.nodes k ≡ Some x
     → letters_at w k x ≡ (if b then Some (engine_of (member_at w k x)) else None)
 shown w k b is x stands = ap (λ up. if up then Some (engine_of (member_at w k x)) else None) (ap up_of (sym stands) ∙ is)
@@ -32,7 +32,7 @@ up_line w k c line up counts is x stands =
 
 -- ---- all of them
 
--- what holds of each and of one more
+-- what holds of each line and of one more
 one_more : (P : ℕ → Text → Type 0) (lines : List Text) (line : Text) → ((k : ℕ) (l : Text) → slice_get lines k ≡ Some l → P k l) → P (length lines) line
     → (k : ℕ) (l : Text) → slice_get (lines ++ line ∷ []) k ≡ Some l → P k l
 one_more P [] line each last zero l e = let same : line ≡ l = ap (λ o. unwrap_or o line) e in subst (P 0) same last

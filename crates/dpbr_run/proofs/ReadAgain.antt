@@ -1,4 +1,4 @@
--- The list that is printed is read again.
+-- Reading a printed list.
 use Rattle.std.proofs.Common.{suc, ◌≡◌, ◌∙◌, ◌++◌, List, [], ◌∷◌, All, true, false, not, ap, sym, refl, flat_map, map, subst, append_assoc, arith, codes}
 use Rattle.std.specs.List.{AllZip, join_with_byte, list_all}
 use Rattle.std.proofs.lemmas.Bool.{and_from}
@@ -18,14 +18,14 @@ use Rattle.package_record.proofs.Digests.{sha256_bytes}
 use Rattle.package_record.proofs.Lacking.{hex_lacks, lacks-append, name_lacks, path_lacks}
 use Rattle.package_record.proofs.ReadWhole.{ended_split}
 use Rattle.world.specs.Headline.{entry_of}
-use Rattle.lists.specs.List.{AreEntries, Names, Says, Spells, lines_in, said_of, without_empty_end}
-use Rattle.lists.specs.ListText.{built_line, list_text, record_lines, signature_line}
-use Rattle.lists.specs.declared.list_line.ListLine.{ListLine}
-use Rattle.lists.specs.declared.list_line.ListLine.TheVariants.{Built}
+use Rattle.package_lists.specs.List.{AreEntries, Names, Says, Spells, lines_in, said_of, without_empty_end}
+use Rattle.package_lists.specs.ListText.{built_line, list_text, record_lines, signature_line}
+use Rattle.package_lists.specs.declared.list_line.ListLine.{ListLine}
+use Rattle.package_lists.specs.declared.list_line.ListLine.TheVariants.{Built}
 
 -- ---- one line
 
--- the line without its end
+-- the line without its line feed
 abbrev line_of : Text → Dep → Text
 line_of word d = join_with_byte blank (word ∷ d.path ∷ d.name ∷ encode_lower d.digest ∷ [])
 
@@ -60,7 +60,7 @@ line_lacks word d none good =
     lacks-append line_feed d.path (blank ∷ (d.name ++ behind)) (path_lacks line_feed d.path refl refl refl good.path) name in
     ap not (lacks-append line_feed word (blank ∷ (d.path ++ (blank ∷ (d.name ++ behind)))) none path)
 
--- what is printed of a package is its line, ended
+-- what is printed of a package is its line with a line feed
 printed_line : (word : Text) (d : Dep) → signature_line (word ++ blank ∷ []) d.path d.name d.digest ≡ line_of word d ++ line_feed ∷ []
 printed_line word d =
     let end : Text = line_feed ∷ [] in
@@ -75,7 +75,7 @@ printed_line word d =
 
 -- ---- all lines
 
--- a package as it is told
+-- a package as it is printed
 abbrev package_of : Content → Dep
 package_of r = record { path = r.path; name = r.name; digest = sha256 (record_text r) }
 
@@ -136,7 +136,7 @@ lines_read rs good =
     ∙ ended_split (flat_map lines_of rs) [] (lines_lack rs good))
     ∙ empty_end (flat_map lines_of rs)
 
--- ---- what they say
+-- ---- what the lines say
 
 says_too : (ls ms : List Text) (ss ts : List ListLine) → AllZip Says ls ss → AllZip Says ms ts → AllZip Says (ls ++ ms) (ss ++ ts)
 says_too [] ms [] ts front behind = behind
@@ -156,7 +156,7 @@ lines_say (r ∷ rs) good =
     (named (codes "package") (package_of r) refl (good_package r here), built_say r.built here.names.built)
     (lines_say rs (λ k x below. good (suc k) x (omega arith)))
 
--- the list that is printed of records has their entries
+-- the printed list of records has their entries
 pub printed_is_read : (rs : List Content) → All IsRecord rs → AreEntries (list_text rs) (map entry_of rs)
 printed_is_read rs good =
     subst (λ (ls : List Text). AllZip Says ls (flat_map said_of (map entry_of rs))) (sym (lines_read rs good)) (lines_say rs good)

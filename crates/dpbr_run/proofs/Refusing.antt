@@ -1,20 +1,20 @@
--- What is told of a trace.
+-- What is reported about a trace.
 use Rattle.std.proofs.Common.{◌≡◌, ◌⊎◌, inl, inr}
 use Rattle.faults.specs.Bytes.{Text}
 use Rattle.listing.specs.Tree.{Tree}
 use Rattle.dpbr_run.specs.Run.{RefusesEvent, RefusesTrace}
-use Rattle.program.specs.Files.{RefusesAt}
-use Rattle.program.specs.Refusals.{memory_refusal}
-use Rattle.program.specs.declared.refusal.Refusal.{Refusal}
-use Rattle.trace_files.specs.Traces.{RefusesTraceAt}
+use Rattle.program_io.specs.Files.{RefusesAt}
+use Rattle.program_io.specs.Refusals.{memory_refusal}
+use Rattle.program_io.specs.declared.refusal.Refusal.{Refusal}
+use Rattle.input_files.specs.Traces.{RefusesTraceAt}
 
--- want of memory, or what is told of an event
+-- out of memory, or what is reported about an event
 pub event_refused : (trace : Text) (tree : Tree) (r : Refusal) → (r ≡ memory_refusal) ⊎ RefusesEvent tree trace r
     → (r ≡ memory_refusal) ⊎ RefusesTrace trace tree r
 event_refused trace tree r (inl memory) = inl memory
 event_refused trace tree r (inr refused) = inr (inr refused)
 
--- what has this name is no trace
+-- the text with this name isn't a trace
 pub trace_refused : (Gave : Text → Text → Type 0) (name : Text) (tree : Tree) (r : Refusal) → RefusesTraceAt Gave name r
     → RefusesAt Gave name (λ text. RefusesTrace text tree) r
 trace_refused Gave name tree r (inl system) = inl system

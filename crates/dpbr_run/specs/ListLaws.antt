@@ -1,11 +1,11 @@
--- What holds of the lists of packages that are printed.
+-- Laws of printed lists of packages.
 use Rattle.std.specs.Prelude.{List, All, map}
-use Rattle.lists.specs.List.{AreEntries}
-use Rattle.lists.specs.ListText.{list_text}
+use Rattle.package_lists.specs.List.{AreEntries}
+use Rattle.package_lists.specs.ListText.{list_text}
 use Rattle.package_record.specs.Content.{Content, IsRecord}
 use Rattle.world.specs.Headline.{entry_of}
 
--- the list that is printed of packages is read as the list of their entries
+-- the printed list of packages is read as the list of their entries
 abbrev pub PrintedListsAreRead : Type 0
 PrintedListsAreRead =
     (packages : List Content) → All IsRecord packages

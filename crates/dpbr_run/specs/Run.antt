@@ -4,16 +4,16 @@ use Rattle.engine.specs.State.{State}
 use Rattle.faults.specs.Bytes.{Text}
 use Rattle.listing.specs.Listing.{Rules, tree_of}
 use Rattle.listing.specs.Tree.{Tree}
-use Rattle.lists.specs.ListText.{list_text}
-use Rattle.program.specs.Files.{RefusesBoth, RefusesTexts}
-use Rattle.program.specs.Listings.{IsDescribedAt}
-use Rattle.program.specs.NodeLine.{IsLineOf}
-use Rattle.program.specs.declared.refusal.Refusal.{Refusal}
+use Rattle.package_lists.specs.ListText.{list_text}
+use Rattle.program_io.specs.Files.{RefusesBoth, RefusesTexts}
+use Rattle.program_io.specs.Listings.{IsDescribedAt}
+use Rattle.program_io.specs.NodeLine.{IsLineOf}
+use Rattle.program_io.specs.declared.refusal.Refusal.{Refusal}
 use Rattle.protocol.specs.State.{engine_of}
-use Rattle.running.specs.Faults as runs
-use Rattle.running.specs.History.{IsHistory, IsRunFault, History, taken}
-use Rattle.running.specs.declared.run_fault.RunFault.{RunFault}
-use Rattle.trace_files.specs.Traces.{RefusesText}
+use Rattle.simulator.specs.Faults as runs
+use Rattle.simulator.specs.History.{IsHistory, IsRunFault, History, taken}
+use Rattle.simulator.specs.declared.run_fault.RunFault.{RunFault}
+use Rattle.input_files.specs.Traces.{RefusesText}
 use Rattle.traces.specs.Trace.{Trace, trace_of}
 use Rattle.world.specs.World.{World, WorldNode, member_at}
 
@@ -33,8 +33,8 @@ pub record IsOutcome (w : World) (text : Text) : Type 0 where
   pub are_lines : (k : ℕ) (line : Text) → slice_get lines k ≡ Some line → IsNodeLine w k line
   pub parts : text ≡ flat_map (λ line. line) lines ++ list_text w.agreed
 
--- The first text is a trace, its events lead from the start over the tree to a world, and the
--- other text tells that world.
+-- The first text is a trace. Its events lead from the start, over the tree, to a world, and the
+-- other text shows that world.
 pub record IsRunOf (tree : Tree) (trace text : Text) : Type 0 where
   pub read : Trace
   pub is_trace : trace_of trace ≡ Ok read
@@ -45,17 +45,17 @@ pub record IsRunOf (tree : Tree) (trace text : Text) : Type 0 where
   pub is_history : IsHistory history
   pub outcome : IsOutcome history.world text
 
--- the same on the tree that a listing describes
+-- the result of a trace for the tree that a listing describes
 pub record IsRunOfListing (rules : Rules) (listing trace text : Text) : Type 0 where
   pub tree : Tree
   pub described : tree_of rules listing ≡ Ok tree
   pub run : IsRunOf tree trace text
 
--- how the fault of a run is told: by the event that is refused
+-- how the fault of a run is reported: with the number of the refused event
 abbrev pub run_refusal : RunFault → Refusal
 run_refusal e = record { number = runs.number_of e; place = e.event }
 
--- what is told of a trace with an event that is refused
+-- what is reported about a trace with a refused event
 pub record RefusesEvent (tree : Tree) (trace : Text) (r : Refusal) : Type 0 where
   pub read : Trace
   pub is_trace : trace_of trace ≡ Ok read
@@ -63,15 +63,15 @@ pub record RefusesEvent (tree : Tree) (trace : Text) (r : Refusal) : Type 0 wher
   pub is_fault : IsRunFault tree read.weights read.events fault.event fault.fault
   pub told : r ≡ run_refusal fault
 
--- what is told of a trace, or else of its first event that is refused
+-- what is reported about a trace, or else about its first refused event
 abbrev pub RefusesTrace : Text → Tree → Refusal → Type 0
 RefusesTrace trace tree r = RefusesText trace r ⊎ RefusesEvent tree trace r
 
--- what is told of a listing, or else of a trace
+-- what is reported about a listing, or else about a trace
 abbrev pub RefusesRun : Rules → Text → Text → Refusal → Type 0
 RefusesRun rules listing trace r = RefusesTexts rules listing (RefusesTrace trace) r
 
--- what a run of a trace leaves, by a listing, where reads of these names gave both
+-- the result of a trace for a listing, if reads of these names gave both
 pub record IsRun (Gave : Text → Text → Type 0) (listing_name trace_name : Text)
     (is_single : Bool) (text : Text) : Type 0 where
   pub tree : Tree
@@ -80,7 +80,8 @@ pub record IsRun (Gave : Text → Text → Type 0) (listing_name trace_name : Te
   pub from_trace : Gave trace_name trace
   pub is_run : IsRunOf tree trace text
 
--- one of the two can't be read, or this is told of what reads of these names gave
+-- what is reported if one of the two files can't be read, or about the texts that reads of these
+-- names gave
 abbrev pub RefusesRunFiles : (Text → Text → Type 0) → Text → Text → Bool → Refusal → Type 0
 RefusesRunFiles Gave listing trace is_single r =
     RefusesBoth Gave is_single listing trace RefusesTrace r

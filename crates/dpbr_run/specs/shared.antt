@@ -1,2 +1,2 @@
--- What bodies and proofs need, those of crates above, too.
+-- What bodies and proofs need, here and in crates that use this one.
 pub mod NodeLines

@@ -1,16 +1,16 @@
-//! The answer of `dpbr run` to its files.
+//! The result of `dpbr run` for its files.
 ghost use Rattle.std.specs.Prelude.{◌≡◌, IfErr, IfOk};
 ghost use Rattle.dpbr_run.specs.Run.{IsRun, IsRunOf, RefusesRunFiles, RefusesTrace};
 ghost use Rattle.faults.specs.Bytes.{Text};
-ghost use Rattle.program.specs.Files.{RefusesAt};
+ghost use Rattle.program_io.specs.Files.{RefusesAt};
 
 use crate::text::run_of_events;
+use input_files::trace_of_name;
 use listing::Tree;
-use program::{Answer, NamedTexts, Refusal, tree_of_name};
+use program_io::{Answer, NamedTexts, Refusal, tree_of_name};
 use std::alloc::Global;
-use trace_files::trace_of_name;
 
-/// The answer to the listing and the trace of these names. The listing is read before the trace.
+/// The result for the listing and the trace with these names. The listing is read first.
 pub fn run_of_files<T: NamedTexts>(
     texts: &T,
     alloc: Global,
@@ -27,7 +27,7 @@ pub fn run_of_files<T: NamedTexts>(
     run_in_file(texts, alloc, &tree, trace)
 }
 
-/// The answer to a tree and the trace of this name.
+/// The result for a tree and the trace with this name.
 fn run_in_file<T: NamedTexts>(
     texts: &T,
     alloc: Global,

@@ -1,8 +1,8 @@
-//! What holds of the lists of packages that are printed.
+//! Laws of printed lists of packages.
 ghost use Rattle.dpbr_run.specs.ListLaws.{PrintedListsAreRead};
 
-/// The text that `list_text` gives of packages is the list of their entries, so that an audit reads
-/// it as that.
+/// Law: the text that `list_text` makes of packages is read as the list of their entries. So an
+/// audit accepts printed lists as input.
 #[tactic(auto, using(crate::proofs::ReadAgain::printed_is_read))]
 pub fn printed_lists_are_read()
     ensures { PrintedListsAreRead }

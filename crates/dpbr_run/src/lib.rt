@@ -1,5 +1,5 @@
-//! What `dpbr run` does: from a listing and a trace to what its run leaves of the nodes, and the
-//! list that is agreed then.
+//! What `dpbr run` does: it runs the events of a trace over a listing, and prints the state of the
+//! nodes and the agreed list afterwards.
 #![tactic(auto)]
 
 mod files;
@@ -11,4 +11,4 @@ pub use crate::files::run_of_files;
 pub use crate::laws::printed_lists_are_read;
 pub use crate::text::{run_of_trace, run_text};
 pub use crate::texts::run_of_texts;
-pub use running::{RunFault, World, run};
+pub use simulator::{RunFault, World, run};

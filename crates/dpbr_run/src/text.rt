@@ -3,25 +3,25 @@ ghost use Rattle.std.specs.Prelude.{◌≡◌, ◌⊎◌, IfErr, IfOk, Ok, lengt
 ghost use Rattle.dpbr_run.specs.Run.{IsNodeLine, IsOutcome, IsRunOf, RefusesEvent, RefusesTrace};
 ghost use Rattle.dpbr_run.specs.shared.NodeLines.{HasNodeLines};
 ghost use Rattle.faults.specs.Bytes.{Text};
-ghost use Rattle.program.specs.Refusals.{memory_refusal};
+ghost use Rattle.program_io.specs.Refusals.{memory_refusal};
 ghost use Rattle.traces.specs.Faults.{trace_view};
 ghost use Rattle.traces.specs.Trace.{trace_of};
 
 use faults::Memory;
+use input_files::trace_of_text;
 use listing::Tree;
-use lists::put_list;
-use program::{Refusal, node_text};
-use running::{World, run};
+use package_lists::put_list;
+use program_io::{Refusal, node_text};
+use simulator::{World, run};
 use std::alloc::{AllocError, Global};
-use trace_files::trace_of_text;
 use traces::Trace;
 
-/// What is printed once the trace was run: for each node how many packages have each letter, or
-/// that it is down, a line each; and then the agreed list.
+/// What is printed after the trace was run: for each node a line with the number of packages with
+/// each letter, or that it is down; and then the agreed list.
 ///
 /// # Errors
 ///
-/// Memory; else the trace's fault; else that of its first event that is refused.
+/// Out of memory; the trace's fault; that of its first refused event. In this order.
 pub fn run_of_trace(alloc: Global, tree: &Tree, trace: &[u8]) -> Result<Vec<u8>, Refusal>
     ensures ok { IfOk result (λ text. IsRunOf tree.now trace.now text.items) }
     ensures refused { IfErr result
@@ -31,11 +31,11 @@ pub fn run_of_trace(alloc: Global, tree: &Tree, trace: &[u8]) -> Result<Vec<u8>,
     run_of_events(alloc, tree, trace)
 }
 
-/// The same of a trace that was read.
+/// What is printed after a parsed trace was run.
 ///
 /// # Errors
 ///
-/// Memory; else that of its first event that is refused.
+/// Out of memory; that of its first refused event.
 pub fn run_of_events(alloc: Global, tree: &Tree, trace: Trace) -> Result<Vec<u8>, Refusal>
     ensures ok { (read : Text) → trace_of read ≡ Ok (trace_view trace)
         → IfOk result (λ text. IsRunOf tree.now read text.items) }
@@ -52,8 +52,8 @@ pub fn run_of_events(alloc: Global, tree: &Tree, trace: Trace) -> Result<Vec<u8>
     }
 }
 
-/// What is printed of a world. The world goes before its list is written, so that both never stand
-/// side by side.
+/// What is printed of a world. The world is dropped before its list is written, so that they don't
+/// use memory at the same time.
 pub fn run_text(alloc: Global, world: World<'_>) -> Result<Vec<u8>, Memory>
     ensures { IfOk result (λ text. IsOutcome world.entry.world text.items) }
 {
@@ -77,7 +77,7 @@ fn nodes_text(alloc: Global, world: &World<'_>) -> Result<Vec<u8>, Memory>
     Ok(text)
 }
 
-/// The line on the node with this number.
+/// The line of the node with this number.
 fn line_of(alloc: Global, world: &World<'_>, node: u8) -> Result<String, AllocError>
     ensures { IfOk result (λ text. IsNodeLine world.now.world node (string_bytes text)) }
 {

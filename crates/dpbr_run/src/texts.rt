@@ -1,19 +1,18 @@
-//! The answer of `dpbr run` to two texts.
+//! The result of `dpbr run` for two texts.
 ghost use Rattle.std.specs.Prelude.{◌≡◌, ◌⊎◌, IfErr, IfOk};
 ghost use Rattle.dpbr_run.specs.Run.{IsRunOfListing, RefusesRun};
-ghost use Rattle.program.specs.Listings.{rules_for};
-ghost use Rattle.program.specs.Refusals.{memory_refusal};
+ghost use Rattle.program_io.specs.Listings.{rules_for};
+ghost use Rattle.program_io.specs.Refusals.{memory_refusal};
 
 use crate::text::run_of_trace;
-use program::{Refusal, tree_of_text};
+use program_io::{Refusal, tree_of_text};
 use std::alloc::Global;
 
-/// What `dpbr run` prints of a listing and a trace.
+/// What `dpbr run` prints for a listing and a trace.
 ///
 /// # Errors
 ///
-/// Memory; else the listing's fault; else the trace's; else that of its first event that is
-/// refused.
+/// Out of memory; the listing's fault; the trace's; that of its first refused event. In this order.
 pub fn run_of_texts(
     alloc: Global,
     listing: &[u8],

@@ -11,7 +11,7 @@ use Rattle.graph.proofs.Marked.{has_mark-same, marked_after, marked_before}
 use Rattle.listing.specs.Lines.{Line}
 use Rattle.listing.specs.Tree.{IsTree, Tree}
 use Rattle.pkgpath.specs.PkgPath.{path_of}
-use Rattle.program.proofs.Once.{ok_once}
+use Rattle.program_io.proofs.Once.{ok_once}
 use Rattle.dpbr_status.proofs.Positions.{same_paths}
 use Rattle.dpbr_status.specs.Held.{IsFaultless, Names}
 use Rattle.dpbr_status.specs.inside.Holding.{IsNamed}
@@ -20,7 +20,7 @@ use Rattle.dpbr_status.specs.declared.held.HeldFault.TheVariants.{Memory, BadLis
 abbrev pub AnyNames : Tree → ℕ → List Line → Type 0
 AnyNames tree p lines = Any (λ (line : Line). Names tree line.1 p) lines
 
--- no line is faulty, and exactly the packages that lines name have marks
+-- no line is faulty, and exactly the packages that lines name are marked
 pub record HasHeld (tree : Tree) (lines : List Line) (marks : List Bool) : Type 0 where
   pub each : length marks ≡ length tree
   pub faultless : All (IsFaultless tree) lines
@@ -57,7 +57,7 @@ empty_is_faultless tree line empty (BadList n) fault = true≢false (sym empty �
 empty_is_faultless tree line empty (Unlisted n) fault = empty_spells_none line.1 _ empty fault.2
 empty_is_faultless tree line empty (Ignored n) fault = empty_spells_none line.1 _ empty fault.2.spelled
 
--- a text names one package at most
+-- a text names at most one package
 named_once : (tree : Tree) → IsTree tree → (text : Text) (p q : ℕ) → Names tree text p → Names tree text q → p ≡ q
 named_once tree is text p q n m = is.once p q n.listed m.listed (same_paths tree text p q n m)
 
@@ -70,7 +70,7 @@ named_is_faultless tree is line p names (Unlisted n) fault =
 named_is_faultless tree is line p names (Ignored n) fault =
     names.not_ignored (subst (IsIgnored tree) (named_once tree is line.1 fault.1 p fault.2 names.named) fault.3)
 
--- what one line more names
+-- what one more line names
 pushed_names : (tree : Tree) (p : ℕ) (lines : List Line) (line : Line) → AnyNames tree p (lines ++ line ∷ []) → AnyNames tree p lines ⊎ Names tree line.1 p
 pushed_names tree p [] line (zero, x, within, reads, names) = inr (subst (λ (l : Line). Names tree l.1 p) (sym reads) names)
 pushed_names tree p [] line (suc k, x, within, reads, names) = absurd (omega arith)

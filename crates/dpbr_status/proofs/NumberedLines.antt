@@ -1,4 +1,4 @@
--- The lines of a text with their numbers, beside those that code goes over.
+-- The lines of a text with their numbers, and those that the code iterates over.
 use Rattle.std.proofs.Common.{◌≡◌, ◌+◌, ◌<◌, ◌≤◌, ◌∙◌, ◌++◌, ◌==◌, ℕ, true, Bor, List, [], ◌∷◌, length, map, take, get_or, Some, arith, ap, sym, refl}
 use Rattle.std.proofs.lemmas.Bool.Decides.{Decides-eqb}
 use Rattle.std.proofs.lemmas.List.{take_more}

@@ -1,4 +1,4 @@
--- What is told of a text of held package paths.
+-- What is reported about a text of held package paths.
 use Rattle.std.proofs.Common.{◌≡◌, ◌⊎◌, inl, inr, ap, refl}
 use Rattle.faults.specs.Bytes.{Text}
 use Rattle.listing.specs.Tree.{Tree}
@@ -7,9 +7,9 @@ use Rattle.dpbr_status.specs.HeldRefusals.{held_refusal}
 use Rattle.dpbr_status.specs.Status.{RefusesHeld}
 use Rattle.dpbr_status.specs.declared.held.HeldFault.{HeldFault}
 use Rattle.dpbr_status.specs.declared.held.HeldFault.TheVariants.{Memory}
-use Rattle.program.specs.Refusals.{memory_refusal}
+use Rattle.program_io.specs.Refusals.{memory_refusal}
 
--- want of memory, or the first fault
+-- out of memory, or the first fault
 pub held_told : (held : Text) (tree : Tree) (e : HeldFault) → (e ≡ Memory) ⊎ IsFirstFault tree held e
     → (held_refusal e ≡ memory_refusal) ⊎ RefusesHeld held tree (held_refusal e)
 held_told held tree e (inl memory) = inl (ap held_refusal memory)

@@ -1,4 +1,4 @@
--- Texts, beside the slices of them that code goes over.
+-- Texts, and the slices of them that the code iterates over.
 use Rattle.std.proofs.Common.{◌≡◌, ◌<◌, ◌≤◌, ℕ, zero, suc, Bor, List, [], ◌∷◌, length, map, take, get_or, arith, ap, refl}
 use Rattle.faults.specs.Bytes.{Text}
 

@@ -1,4 +1,4 @@
--- What a text of held package paths, one a line, says of a tree.
+-- A text of held package paths, one in each line, for a tree.
 use Rattle.std.specs.Prelude.{◌≡◌, ◌<◌, ◌↔◌, ℕ, Bool, true, false, length, take, slice_get, All, Any, IsErr, Ok, Some}
 use Rattle.engine.specs.Ignored.{IsIgnored}
 use Rattle.faults.specs.Bytes.{Text, is_empty}
@@ -17,7 +17,7 @@ pub record Names (tree : Tree) (text : Text) (p : ℕ) : Type 0 where
 abbrev pub IsListed : Tree → Text → Type 0
 IsListed tree path = (p : ℕ) × (p < length tree) × (path_at tree p ≡ path)
 
--- the fault of a line: it is not empty and no path; its path is not listed; or its package is
+-- the fault of a line: it isn't empty and isn't a path, its path is not listed, or its package is
 -- ignored
 abbrev pub IsFaultOf : Tree → Line → HeldFault → Type 0
 IsFaultOf tree line Memory = ⊥
@@ -38,7 +38,7 @@ pub record IsFirstFault (tree : Tree) (text : Text) (e : HeldFault) : Type 0 whe
   pub fault : IsFaultOf tree line e
   pub before : All (IsFaultless tree) (take place (lines_of text))
 
--- no line is faulty, and held are exactly the packages that lines name
+-- no line is faulty, and exactly the packages that lines name are held
 pub record AreHeld (tree : Tree) (text : Text) (held : ℕ → Bool) : Type 0 where
   pub faultless : All (IsFaultless tree) (lines_of text)
   pub named : (p : ℕ) → (held p ≡ true) ↔ Any (λ (line : Line). Names tree line.1 p) (lines_of text)

@@ -11,12 +11,12 @@ use Rattle.listing.specs.Tree.{Package, Tree}
 use Rattle.dpbr_status.specs.Held.{AreHeld, IsFirstFault}
 use Rattle.dpbr_status.specs.HeldRefusals.{held_refusal}
 use Rattle.dpbr_status.specs.declared.held.HeldFault.{HeldFault}
-use Rattle.program.specs.Files.{RefusesBoth, RefusesTexts}
-use Rattle.program.specs.Listings.{IsDescribedAt}
-use Rattle.program.specs.NodeLine.{counts_line}
-use Rattle.program.specs.declared.refusal.Refusal.{Refusal}
+use Rattle.program_io.specs.Files.{RefusesBoth, RefusesTexts}
+use Rattle.program_io.specs.Listings.{IsDescribedAt}
+use Rattle.program_io.specs.NodeLine.{counts_line}
+use Rattle.program_io.specs.declared.refusal.Refusal.{Refusal}
 
--- the letter as it is printed
+-- the printed form of a letter
 abbrev pub letter_text : Letter → Text
 letter_text I = codes "I"
 letter_text B = codes "B"
@@ -29,12 +29,12 @@ abbrev pub package_line : Letter → Text → Text → Text
 package_line letter path name =
     letter_text letter ++ codes " " ++ path ++ codes " " ++ name ++ line_feed ∷ []
 
--- the packages' lines, by their letters
+-- the lines of the packages with these letters
 abbrev pub package_lines : List Package → List Letter → Text
 package_lines packages letters =
     flat_map (λ (x : Package × Letter). package_line x.1 x.0.path x.0.name) (zip packages letters)
 
--- a line for each package, in their order, with its letter, and then how many packages have each
+-- a line for each package, in order, with its letter, and then the number of packages with each
 -- letter
 pub record IsStatusText (s : State) (text : Text) : Type 0 where
   pub letters : List Letter
@@ -43,21 +43,20 @@ pub record IsStatusText (s : State) (text : Text) : Type 0 where
   pub are_counts : AreCounts s counts
   pub lines : text ≡ package_lines s.tree letters ++ counts_line counts
 
--- the status of a tree where the packages are held that the lines of a text name
+-- the status of a tree if the packages are held that the lines of a text name
 pub record IsStatusOf (tree : Tree) (held text : Text) : Type 0 where
   pub state : State
   pub tree_is : state.tree ≡ tree
   pub are_held : AreHeld tree held (has_agreed state)
   pub status : IsStatusText state text
 
--- the same of the tree that a listing describes
+-- the status of the tree that a listing describes
 pub record IsStatusOfListing (rules : Rules) (listing held text : Text) : Type 0 where
   pub tree : Tree
   pub described : tree_of rules listing ≡ Ok tree
   pub status : IsStatusOf tree held text
 
--- the status that a listing and a text of held package paths describe, which reads of these names
--- gave
+-- the status for a listing and a text of held package paths, if reads of these names gave both
 pub record IsStatus (Gave : Text → Text → Type 0) (listing_name held_name : Text)
     (is_single : Bool) (text : Text) : Type 0 where
   pub tree : Tree
@@ -66,15 +65,16 @@ pub record IsStatus (Gave : Text → Text → Type 0) (listing_name held_name : 
   pub from_held : Gave held_name held
   pub is_status : IsStatusOf tree held text
 
--- what is told of the first fault of a text of held package paths
+-- what is reported about the first fault of a text of held package paths
 abbrev pub RefusesHeld : Text → Tree → Refusal → Type 0
 RefusesHeld held tree r = (e : HeldFault) × IsFirstFault tree held e × (r ≡ held_refusal e)
 
--- what is told of a listing, or else of a text of held package paths
+-- what is reported about a listing, or else about a text of held package paths
 abbrev pub RefusesStatus : Rules → Text → Text → Refusal → Type 0
 RefusesStatus rules listing held r = RefusesTexts rules listing (RefusesHeld held) r
 
--- one of the two can't be read, or this is told of what reads of these names gave
+-- what is reported if one of the two files can't be read, or about the texts that reads of these
+-- names gave
 abbrev pub RefusesStatusFiles : (Text → Text → Type 0) → Text → Text → Bool → Refusal → Type 0
 RefusesStatusFiles Gave listing held is_single r =
     RefusesBoth Gave is_single listing held RefusesHeld r

@@ -1,18 +1,18 @@
-//! The answer of `dpbr status` to its files. The program ends once it is printed, so what is large
-//! by then, the tree and its letters, is left to the system, which takes that memory back at once.
+//! The result of `dpbr status` for its files. The program ends after it is printed, so the tree and
+//! its letters, which are large, aren't freed here; the system does that at once.
 ghost use Rattle.std.specs.Prelude.{◌≡◌, Bool, IfErr, IfOk};
 ghost use Rattle.dpbr_status.specs.Status.{IsStatus, IsStatusOf, RefusesHeld, RefusesStatusFiles};
 ghost use Rattle.faults.specs.Bytes.{Text};
-ghost use Rattle.program.specs.Files.{RefusesAt};
+ghost use Rattle.program_io.specs.Files.{RefusesAt};
 
 use crate::text::status_by_letters;
 use listing::Tree;
-use program::{Answer, NamedTexts, Refusal, tree_of_name};
+use program_io::{Answer, NamedTexts, Refusal, tree_of_name};
 use std::alloc::Global;
 use std::mem::forget;
 
-/// The answer to the listing and the text of held package paths of these names. The listing is read
-/// before the other.
+/// The status for the listing and the text of held package paths with these names. The listing is
+/// read first.
 pub fn status_of_files<T: NamedTexts>(
     texts: &T,
     alloc: Global,
@@ -31,7 +31,7 @@ pub fn status_of_files<T: NamedTexts>(
     answer
 }
 
-/// The answer to a tree and the held package paths in the text of this name.
+/// The status for a tree and the text of held package paths with this name.
 fn status_in_file<T: NamedTexts>(
     texts: &T,
     alloc: Global,

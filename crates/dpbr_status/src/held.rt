@@ -1,4 +1,4 @@
-//! A text of held package paths, one a line.
+//! A text of held package paths, one in each line.
 ghost use Rattle.std.specs.Prelude.{◌≡◌, ◌⊎◌, IfErr, IfOk, false, length};
 ghost use Rattle.faults.specs.Bytes.{is_empty};
 ghost use Rattle.graph.specs.Marks.{has_mark};
@@ -12,17 +12,17 @@ use engine::Units;
 use faults::{Fault, WantOfMemory};
 use listing::Tree;
 use pkgpath::{PathFault, PkgPath};
-use program::Refusal;
+use program_io::Refusal;
 use std::alloc::Global;
 use thiserror::Error;
 
-/// Why a text is read as naming no packages that can be held: want of memory, or else its first
+/// Why a text doesn't name packages that can be held: out of memory, or the number of its first
 /// faulty line, counted from 1.
 #[derive(Clone, Copy, Debug, PartialEq, Eq, Error)]
 pub enum HeldFault {
     #[error("out of memory")]
     Memory,
-    #[error("line {0} is no package path")]
+    #[error("line {0} is not a package path")]
     BadList(u64),
     #[error("line {0} names a path that is not listed")]
     Unlisted(u64),

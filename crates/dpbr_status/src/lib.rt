@@ -1,5 +1,5 @@
-//! What `dpbr status` does: from a listing and a text of held package paths to the letters of its
-//! packages.
+//! What `dpbr status` does: it finds the letters of a listing's packages, given a text of held
+//! package paths.
 #![tactic(auto)]
 
 mod files;

@@ -10,12 +10,12 @@ use faults::Memory;
 use listing::Tree;
 use pkgname::PkgName;
 use pkgpath::PkgPath;
-use program::counts_text;
-use snapshot::Snapshot;
+use program_io::counts_text;
+use status_letters::Snapshot;
 use std::alloc::Global;
 
-/// What is printed of a tree and a text of held package paths: for each package its letter, path
-/// and name, and then how many have each letter, a line each.
+/// What is printed for a tree and a text of held package paths: for each package a line with its
+/// letter, path and name, and then the number of packages with each letter.
 pub fn status(alloc: Global, tree: &Tree, held: &[u8]) -> Result<Vec<u8>, HeldFault>
     ensures ok { IfOk result (λ text. IsStatusOf tree.now held.now text.items) }
     ensures refused { IfErr result
@@ -25,7 +25,7 @@ pub fn status(alloc: Global, tree: &Tree, held: &[u8]) -> Result<Vec<u8>, HeldFa
     Ok(text)
 }
 
-/// The same, and the letters by which it is told.
+/// Like `status`; also returns the letters that were printed.
 pub fn status_by_letters<'a>(
     alloc: Global,
     tree: &'a Tree,
@@ -40,10 +40,10 @@ pub fn status_by_letters<'a>(
     Ok((text, letters))
 }
 
-/// The letters of a tree where the packages are held that the text names.
+/// The letters of a tree if the packages are held that the text names.
 ///
-/// The text has a package path a line, in any of its spellings; empty lines are skipped. A path may
-/// be named twice.
+/// The text has one package path in each line, in any of its spellings; empty lines are skipped. A
+/// path may be repeated.
 pub fn held_letters<'a>(
     alloc: Global,
     tree: &'a Tree,
@@ -92,7 +92,7 @@ fn write_package(
     Ok(())
 }
 
-/// The letter as it is printed.
+/// The printed form of a letter.
 fn letter_byte(letter: Letter) -> u8
     ensures { result ∷ [] ≡ letter_text letter }
 {

@@ -1,18 +1,18 @@
-//! The answer of `dpbr status` to two texts.
+//! The result of `dpbr status` for two texts.
 ghost use Rattle.std.specs.Prelude.{◌≡◌, ◌⊎◌, IfErr, IfOk};
 ghost use Rattle.dpbr_status.specs.Status.{IsStatusOfListing, RefusesStatus};
-ghost use Rattle.program.specs.Listings.{rules_for};
-ghost use Rattle.program.specs.Refusals.{memory_refusal};
+ghost use Rattle.program_io.specs.Listings.{rules_for};
+ghost use Rattle.program_io.specs.Refusals.{memory_refusal};
 
 use crate::text::status;
-use program::{Refusal, tree_of_text};
+use program_io::{Refusal, tree_of_text};
 use std::alloc::Global;
 
-/// What `dpbr status` prints of a listing and a text of held package paths.
+/// What `dpbr status` prints for a listing and a text of held package paths.
 ///
 /// # Errors
 ///
-/// Memory; else the listing's fault; else that of the held text.
+/// Out of memory; the listing's fault; that of the held text. In this order.
 pub fn status_of_texts(
     alloc: Global,
     listing: &[u8],

@@ -1,4 +1,4 @@
--- Files that are given for just some paths, each once.
+-- Files for exactly some paths, each once.
 use Rattle.std.proofs.Common.{◌≡◌, ◌+◌, ◌||◌, ◌&&◌, ℕ, zero, suc, Bool, true, false, cond, List, [], ◌∷◌, length, map, Option, Some, None, Less, Equal, Greater, option_map, refl, sym, ap, subst, ◌∙◌, arith}
 use Rattle.std.specs.Prelude.{All, find, unwrap_or}
 use Rattle.std.specs.List.{list_all}
@@ -16,21 +16,21 @@ use Rattle.package_record.specs.Content.{NamedFile}
 use Rattle.protocol.specs.Given.{Given}
 use Rattle.protocol.specs.Jobs.{files_for}
 
--- of these paths none stands twice
+-- no path occurs twice
 abbrev pub AreApart : List Text → Type 0
 AreApart [] = Prim.Unit {0}
 AreApart (p ∷ ps) = ((q : Text) → is_among ps q ≡ true → bytes_eq p q ≡ false) × AreApart ps
 
--- the paths for which files are given
+-- the paths for which there are files
 abbrev pub paths_in : Given → List Text
 paths_in given = map (λ g. g.0) given
 
--- what is given, without the first entry of this path
+-- the files without the first entry of this path
 abbrev without : Text → Given → Given
 without path [] = []
 without path (g ∷ gs) = cond (bytes_eq g.0 path) gs (g ∷ without path gs)
 
--- one entry less
+-- there is one entry less
 one_less : (path : Text) (given : Given) → is_among (paths_in given) path ≡ true
     → length given ≡ suc (length (without path given))
 one_less path [] among = absurd (true≢false (sym among))
@@ -46,7 +46,7 @@ one_less path (g ∷ gs) among = by (bytes_eq g.0 path) among (one_less path gs)
 abbrev found_by : Text × List NamedFile → Bool → Option (Text × List NamedFile) → List NamedFile
 found_by g c o = unwrap_or (option_map (λ g. g.1) (cond c (Some g) o)) []
 
--- another path is among the others still, and has the files that it had
+-- another path still has an entry, with the files that it had
 module _ (path other : Text) (apart : bytes_eq path other ≡ false) where
   not_both : (g : Text × List NamedFile) → bytes_eq g.0 path ≡ true → bytes_eq g.0 other ≡ false
   not_both g is = ap (λ t. bytes_eq t other) ((bytes_eq-Decides g.0 path).0 is) ∙ apart
@@ -90,7 +90,7 @@ module _ (Good : List NamedFile → Type 0) where
   abbrev AreGood : Given → Type 0
   AreGood given = All (λ g. Good g.1) given
 
-  -- where the files of the first entry of a path are good, and those of all others, all are
+  -- if the files of the first entry of a path are good, and those of all other entries, all are
   one_more : (path : Text) (given : Given) → is_among (paths_in given) path ≡ true
       → Good (files_for given path) → AreGood (without path given) → AreGood given
   one_more path [] among good rest = All-nil (λ g. Good g.1)
@@ -109,7 +109,7 @@ module _ (Good : List NamedFile → Type 0) where
           All-cons (λ g. Good g.1) g gs (rest zero g (omega arith))
           (next among good (λ k d lt. rest (suc k) d (omega (arith, lt))))
 
-  -- Where files are given for just these paths, and those for each of them are good, all are.
+  -- If there are files for exactly these paths, and those for each of them are good, all are.
   pub all_good : (paths : List Text) (given : Given) → AreApart paths
       → length given ≡ length paths
       → ((q : Text) → is_among paths q ≡ true → is_among (paths_in given) q ≡ true)
@@ -129,7 +129,7 @@ module _ (Good : List NamedFile → Type 0) where
 
 -- ---- paths in ascending order
 
--- a text below another is another
+-- a text that is below another is different
 below_is_other : (t u : Text) → is_lt (text_cmp t u) ≡ true → bytes_eq t u ≡ false
 below_is_other t u below = sym (is_eq-slice_cmp t u) ∙ by (text_cmp t u) below
   where
@@ -138,7 +138,7 @@ below_is_other t u below = sym (is_eq-slice_cmp t u) ∙ by (text_cmp t u) below
     by Equal e = absurd (true≢false (sym e))
     by Greater e = refl
 
--- what stands behind a text that is below all of it is another
+-- a text that is below all later ones is different from each
 others_behind : (t : Text) (us : List Text) (q : Text)
     → list_all (λ u. is_lt (text_cmp t u)) us ≡ true → is_among us q ≡ true → bytes_eq t q ≡ false
 others_behind t [] q below among = absurd (true≢false (sym among))

@@ -1,4 +1,4 @@
--- What is written of a world and of a way in it is read again.
+-- What is written of a world and of a way in it is parsed as that.
 use Rattle.std.proofs.Common.{◌≡◌, ◌++◌, ◌∙◌, ℕ, List, [], ◌∷◌, Ok, ap, map, subst, sym}
 use Rattle.std.specs.Prelude.{All}
 use Rattle.std.proofs.lemmas.List.{map-append}
@@ -7,16 +7,16 @@ use Rattle.ballots.specs.Weights.{AreWeights}
 use Rattle.dpbr_wayon.specs.WayOn.{IsWritten}
 use Rattle.dpbr_wayon.specs.inside.Sound.{IsSound}
 use Rattle.dpbr_wayon.proofs.Sound.{history_sound, way_sound}
-use Rattle.events.specs.Events.{Event, event_view}
-use Rattle.events.specs.declared.event.Event as declared
+use Rattle.protocol.specs.Events.{Event, event_view}
+use Rattle.protocol.specs.declared.event.Event as declared
 use Rattle.faults.specs.Bytes.{Text, line_feed}
 use Rattle.protocol.specs.Given.{Given}
-use Rattle.running.specs.History.{History, IsHistory}
+use Rattle.ways_on.specs.History.{History, IsHistory}
 use Rattle.traces.specs.Again.{IsTextEvent, IsTextTrace}
 use Rattle.traces.specs.Trace.{Trace, trace_of}
 use Rattle.traces.specs.Written.{trace_text}
-use Rattle.way.specs.Asked.{IsGranted}
-use Rattle.way.specs.Laws.{HasWay}
+use Rattle.ways_on.specs.Asked.{IsGranted}
+use Rattle.ways_on.specs.Laws.{HasWay}
 
 -- a trace of these events, and then of a way
 abbrev pub joined : List ℕ → List declared.Event → List Event → Trace
@@ -26,12 +26,12 @@ joined weights es way = record { weights = weights; events = map event_view es +
 abbrev pub IsLine : List ℕ → List Event → Text → List declared.Event → Type 0
 IsLine weights way text es = text ≡ trace_text (joined weights es way) ++ line_feed ∷ []
 
--- it is read as that trace, if a trace can have its weights and its events
+-- it is parsed as that trace, if a trace can contain its weights and its events
 abbrev pub IsReadAgain : List ℕ → List Event → Text → List declared.Event → Type 0
 IsReadAgain weights way text es =
     AreWeights weights → All IsTextEvent (map event_view es ++ way) → trace_of text ≡ Ok (joined weights es way)
 
--- the text that is written of such a trace with a line feed behind it is read so
+-- the text that is written of such a trace, with a line feed at the end, is parsed as that
 module _ (weights : List ℕ) (es way both : List declared.Event) (are : both ≡ es ++ way) (text : Text) where
   abbrev pub whole : Trace
   whole = record { weights = weights; events = map event_view both }
@@ -44,7 +44,7 @@ module _ (weights : List ℕ) (es way both : List declared.Event) (are : both �
       let IsRead : List Event → Type 0 = λ events. trace_of text ≡ Ok (record { weights = weights; events = events }) in
       subst IsRead same (ap trace_of told ∙ line (record { weights = weigh; events = subst AreTextEvents (sym same) all }))
 
--- a trace can have these events, if they are sound
+-- a trace can contain these events if they are sound
 abbrev pub CanBeWritten : List declared.Event → Type 0
 CanBeWritten es = All IsSound (map event_view es) → All IsTextEvent (map event_view es)
 

@@ -1,4 +1,4 @@
--- What is told of texts, which have names or not.
+-- What is reported about texts, with names or without.
 use Rattle.std.proofs.Common.{◌≡◌, ◌⊎◌, ℕ, Some, Ok, Err, inl, inr, ap, refl}
 use Rattle.dpbr_wayon.specs.Refusals.{RefusesBehind, RefusesGiven, RefusesNamed, RefusesPath, RefusesTaken, path_refusal}
 use Rattle.faults.specs.Bytes.{Text}
@@ -6,27 +6,27 @@ use Rattle.listing.specs.Tree.{Tree}
 use Rattle.pkgpath.specs.PkgPath.{path_of}
 use Rattle.pkgpath.specs.declared.PathFault.{PathFault}
 use Rattle.pkgpath.specs.declared.PathFault.TheVariants.{Memory as PathMemory}
-use Rattle.program.specs.Files.{RefusesAt}
-use Rattle.program.specs.Refusals.{memory_refusal}
-use Rattle.program.specs.declared.refusal.Refusal.{Refusal}
+use Rattle.program_io.specs.Files.{RefusesAt}
+use Rattle.program_io.specs.Refusals.{memory_refusal}
+use Rattle.program_io.specs.declared.refusal.Refusal.{Refusal}
 use Rattle.protocol.specs.Given.{Given}
-use Rattle.trace_files.specs.Builds.{AreSpelledAt, RefusesBuilds}
-use Rattle.trace_files.specs.Traces.{IsSpelledAt}
+use Rattle.input_files.specs.Builds.{AreSpelledAt, RefusesBuilds}
+use Rattle.input_files.specs.Traces.{IsSpelledAt}
 use Rattle.traces.specs.Builds.{builds_of}
 use Rattle.traces.specs.Trace.{Trace}
 
 -- ---- one text
 
--- want of memory, or what is told of a path
+-- out of memory, or what is reported about a path
 pub of_path : (path : Text) (f : PathFault) → (f ≡ PathMemory) ⊎ (path_of path ≡ Err f)
     → (path_refusal f ≡ memory_refusal) ⊎ RefusesPath path (path_refusal f)
 of_path path f (inl memory) = inl (ap path_refusal memory)
 of_path path f (inr fault) = inr (f, fault, refl)
 
--- ---- each behind those that are read before it
+-- ---- each after those that are read before it
 
 module _ (Gave : Text → Text → Type 0) (trace_name builds_name : Text) (tree : Tree) (node : ℕ) (path : Text) (host : ℕ) (r : Refusal) where
-  -- want of memory is told wherever it comes up
+  -- out of memory is reported wherever it occurs
   wants_memory : r ≡ memory_refusal → RefusesBehind Gave trace_name builds_name tree node path host r
   wants_memory memory = inl (inl (inl memory))
 

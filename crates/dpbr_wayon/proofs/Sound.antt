@@ -1,4 +1,4 @@
--- What happened, and the events of a way, a trace can have.
+-- A trace can contain events that happened, and the events of a way.
 use Rattle.std.proofs.Common.{◌≡◌, ◌+◌, ◌<◌, ◌≤◌, ◌||◌, ◌&&◌, ◌==◌, ℕ, zero, suc, Bool, true, false, cond, not, nat_le, List, [], ◌∷◌, length, map, take, get_or, Option, Some, None, option_map, Result, Ok, Err, slice_get, refl, sym, ap, subst, ◌∙◌, arith, inl, inr}
 use Rattle.std.specs.Prelude.{All}
 use Rattle.std.specs.List.{list_all, range_with_len, slice_index, slice_index_or}
@@ -9,14 +9,14 @@ use Rattle.std.proofs.lemmas.List.Elements.{All-cons, All-nil, All-weaker}
 use Rattle.std.proofs.lemmas.Slice.Eq.{bytes_eq-Decides}
 use Rattle.std.proofs.lemmas.Str.{IsUtf8-from_ascii, is_utf8-from_IsUtf8}
 use Rattle.std.proofs.lemmas.Str.Ascii.{IsAscii-nil}
-use Rattle.agreement.specs.Member as members
-use Rattle.agreement.specs.declared.claim.Claim.{Claim}
+use Rattle.claims.specs.Member as members
+use Rattle.claims.specs.declared.claim.Claim.{Claim}
 use Rattle.dpbr_wayon.specs.inside.Sound.{AreTextFiles, HaveTextNames, IsSound}
 use Rattle.dpbr_wayon.proofs.JustGiven.{all_good, ascending_apart, paths_in}
 use Rattle.engine.specs.Division.{Division, IsDivision, number_found, unit_at}
 use Rattle.engine.specs.declared.Letter.{Letter}
-use Rattle.events.specs.Events as events
-use Rattle.events.specs.Events.{Event, is_step}
+use Rattle.protocol.specs.Events as events
+use Rattle.protocol.specs.Events.{Event, is_step}
 use Rattle.faults.specs.Answers.{first_given, first_that_applies, option_or}
 use Rattle.faults.specs.Bytes.{Text, is_among}
 use Rattle.listing.specs.Tree.{Tree, path_at}
@@ -40,16 +40,16 @@ use Rattle.protocol.specs.declared.refusal.Refusal.TheVariants as refusals
 use Rattle.protocol.proofs.Answering.{has_unit, not_refused}
 use Rattle.protocol.proofs.Asked.{unit_is_one}
 use Rattle.protocol.proofs.PackageOrder.{paths_ascend}
-use Rattle.running.specs.History.{History, IsHistory}
-use Rattle.running.specs.History as histories
-use Rattle.way.specs.Asked.{IsGranted, is_majority_up, is_queued, next_build, refusal_at, refusal_of_stranger}
-use Rattle.way.specs.Rounds.{is_round_left, next_claim}
-use Rattle.way.specs.Ways.{AreOnWay, IsOnWay}
-use Rattle.way.specs.declared.fault.WayFault.TheVariants as way_fault
+use Rattle.ways_on.specs.History.{History, IsHistory}
+use Rattle.ways_on.specs.History as histories
+use Rattle.ways_on.specs.Asked.{IsGranted, is_majority_up, is_queued, next_build, refusal_at, refusal_of_stranger}
+use Rattle.ways_on.specs.Rounds.{is_round_left, next_claim}
+use Rattle.ways_on.specs.Ways.{AreOnWay, IsOnWay}
+use Rattle.ways_on.specs.declared.fault.WayFault.TheVariants as way_fault
 use Rattle.wire.specs.declared.datagram.Piece.{Piece}
 use Rattle.world.specs.Happening.{Acts, Asks, Happens, Leads, is_up}
 use Rattle.world.specs.World.{World, WorldNode, member_at, node_at, start}
-use Rattle.world.proofs.Growing.{event_later}
+use Rattle.world.proofs.Growth.{event_later}
 
 -- ---- names
 
@@ -91,7 +91,7 @@ name_is_text name good =
     is_utf8-from_IsUtf8 name
     (IsUtf8-from_ascii name (printable_is_ascii name (name_parts name good).0))
 
--- without a bad name all names are text
+-- if no name is bad, all names are text
 names_are_text : (files : List NamedFile) → names_fault (names_of files) ≡ None → HaveTextNames files
 names_are_text files none k d lt =
     let names = names_of files in
@@ -110,7 +110,7 @@ names_are_text files none k d lt =
 
 -- ---- files that make a build
 
--- none refused: they are of just the unit's packages, and no name is bad
+-- if nothing is refused, they are for exactly the unit's packages, and no name is bad
 neither_refused : (b : Bool) (o : Option RecordFault)
     → option_or (first_that_applies ((not b, refusals.OtherPackages) ∷ []))
     (option_map refusals.BadFiles o) ≡ None → (b ≡ true) × (o ≡ None)
@@ -147,7 +147,7 @@ all_among (t ∷ ts) us all q among =
         subst (λ (x : Text). is_among us x ≡ true) ((bytes_eq-Decides t q).0 same) here
     by here false other e rest = rest e
 
--- where they are not refused, the names of all files are text
+-- if they aren't refused, the names of all files are text
 pub files_are_text : (s : State) (u : ℕ) (job : Task) (given : Given) → IsDivision s.division
     → u < length s.division.units → files_refusal s u given (build_by s u job given) ≡ None
     → AreTextFiles given
@@ -238,7 +238,7 @@ all_sound w v (e ∷ es) is (u, h, rest) =
     (all_sound u v es
     (subst (λ (d : Division). IsDivision d) (sym (event_later w u e h).division) is) rest)
 
--- All events that a world took a trace can have.
+-- A trace can contain all events that a world took.
 pub history_sound : (h : History) → IsHistory h → All IsSound (histories.taken h)
 history_sound h is =
     all_sound (start h.world.division h.world.weights) h.world (histories.taken h) is.made.divided is.led
@@ -257,7 +257,7 @@ no_refusal false false false None e = refl
 no_refusal false false false (Some r) e =
     absurd (let no : None ≡ Some (way_fault.Refused r) = e in cc)
 
--- the files of a way that is granted
+-- the files of a granted way
 text_of : (w : World) (s : State) (letter : Letter) (path : Text) (host : ℕ) (given : Given)
     → IsDivision s.division → (o : Option ℕ) → number_found s.division path ≡ o
     → None ≡ refusal_at w s letter path host given o → AreTextFiles given
@@ -286,7 +286,7 @@ on_way_sound k path host given (events.Stop n) text on = tt
 on_way_sound k path host given (events.StopIn e l) text on = absurd on
 on_way_sound k path host given (events.Restart n) text on = tt
 
--- And so can it all events of a way that was granted.
+-- A trace can contain all events of a granted way.
 pub way_sound : (h : History) → IsHistory h → (k : ℕ) (path : Text) (host : ℕ) (given : Given)
     (way : List Event) → IsGranted h.world k path host given
     → AreOnWay h.world k path host given way → All IsSound way

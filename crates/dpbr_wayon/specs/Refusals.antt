@@ -1,4 +1,4 @@
--- What is told where `dpbr wayon` prints no trace.
+-- What `dpbr wayon` reports if it prints no trace.
 use Rattle.std.specs.Prelude.{◌≡◌, ◌⊎◌, ℕ, Bool, None, Some, Ok, Err}
 use Rattle.dpbr_wayon.specs.WayOn.{handed_over}
 use Rattle.faults.specs.Bytes.{Text}
@@ -6,48 +6,48 @@ use Rattle.listing.specs.Tree.{Tree}
 use Rattle.pkgpath.specs.PkgPath.{path_of}
 use Rattle.pkgpath.specs.Refusals as paths
 use Rattle.pkgpath.specs.declared.PathFault.{PathFault}
-use Rattle.program.specs.Files.{RefusesAt}
-use Rattle.program.specs.Listings.{IsDescribedAt, RefusesListingAt}
-use Rattle.program.specs.declared.refusal.Refusal.{Refusal}
+use Rattle.program_io.specs.Files.{RefusesAt}
+use Rattle.program_io.specs.Listings.{IsDescribedAt, RefusesListingAt}
+use Rattle.program_io.specs.declared.refusal.Refusal.{Refusal}
 use Rattle.protocol.specs.Given.{Given}
-use Rattle.running.specs.Faults as runs
-use Rattle.running.specs.History.{History, IsHistory, IsRunFault, taken}
-use Rattle.running.specs.declared.run_fault.RunFault.{RunFault}
-use Rattle.trace_files.specs.Builds.{RefusesBuilds}
-use Rattle.trace_files.specs.Traces.{IsSpelledAt, RefusesTraceAt}
+use Rattle.ways_on.specs.Faults as runs
+use Rattle.ways_on.specs.History.{History, IsHistory, IsRunFault, taken}
+use Rattle.ways_on.specs.RunFault.{RunFault}
+use Rattle.input_files.specs.Builds.{RefusesBuilds}
+use Rattle.input_files.specs.Traces.{IsSpelledAt, RefusesTraceAt}
 use Rattle.traces.specs.Builds.{builds_of}
 use Rattle.traces.specs.Trace.{Trace}
-use Rattle.way.specs.Asked.{HasNoWay}
-use Rattle.way.specs.Refusals as ways
-use Rattle.way.specs.declared.fault.WayFault.{WayFault}
+use Rattle.ways_on.specs.Asked.{HasNoWay}
+use Rattle.ways_on.specs.Refusals as ways
+use Rattle.ways_on.specs.declared.fault.WayFault.{WayFault}
 use Rattle.world.specs.World.{World}
 
--- ---- of texts
+-- ---- about texts
 
--- how the fault of a path is told, which has no place
+-- how the fault of a path is reported, which has no place
 abbrev pub path_refusal : PathFault → Refusal
 path_refusal f = record { number = paths.number_of f; place = None }
 
--- what is told of a text that is no package path
+-- what is reported about a text that isn't a package path
 abbrev pub RefusesPath : Text → Refusal → Type 0
 RefusesPath path r = (f : PathFault) × (path_of path ≡ Err f) × (r ≡ path_refusal f)
 
--- ---- of a trace that was read
+-- ---- about a parsed trace
 
--- what is told of a world in which no way is told: the reason, which has no place
+-- what is reported about a world in which no way is found: the reason, which has no place
 pub record RefusesWay (w : World) (node : ℕ) (path : Text) (host : ℕ) (given : Given)
     (r : Refusal) : Type 0 where
   pub fault : WayFault
   pub is_fault : HasNoWay w node path host given fault
   pub told : r ≡ record { number = ways.number_of fault; place = None }
 
--- what is told of the first event that is refused: the reason, and the event's number
+-- what is reported about the first refused event: the reason, and the event's number
 pub record RefusesEvents (tree : Tree) (trace : Trace) (r : Refusal) : Type 0 where
   pub fault : RunFault
   pub is_fault : IsRunFault tree trace.weights trace.events fault.event fault.fault
   pub told : r ≡ record { number = runs.number_of fault; place = fault.event }
 
--- the events lead from the start over the tree to a world, and this is told of that
+-- the events lead from the start, over the tree, to a world, and this is reported about that world
 pub record RefusesAfter (tree : Tree) (trace : Trace) (node : ℕ) (path : Text) (host : ℕ)
     (builds : Given) (r : Refusal) : Type 0 where
   pub history : History
@@ -58,21 +58,21 @@ pub record RefusesAfter (tree : Tree) (trace : Trace) (node : ℕ) (path : Text)
   pub refuses : RefusesWay history.world node path host
       (handed_over history.world.division path builds) r
 
--- what is told of the first event that is refused, or else of the world to which they lead
+-- what is reported about the first refused event, or else about the world that the events lead to
 abbrev pub RefusesTaken : Tree → Trace → ℕ → Text → ℕ → Given → Refusal → Type 0
 RefusesTaken tree trace node path host builds r =
     RefusesEvents tree trace r ⊎ RefusesAfter tree trace node path host builds r
 
--- ---- each behind what is read before it
+-- ---- each after what is read before it
 
--- what is told of the files for paths, or else of the events
+-- what is reported about the files for paths, or else about the events
 abbrev pub RefusesGiven : Tree → Trace → ℕ → Text → ℕ → Text → Refusal → Type 0
 RefusesGiven tree trace node path host builds r =
     RefusesBuilds builds r
     ⊎ ((given : Given) × (builds_of builds ≡ Some given)
     × RefusesTaken tree trace node path host given r)
 
--- what is told of the path, or else of the files of this name
+-- what is reported about the path, or else about the files with this name
 abbrev pub RefusesNamed : (Text → Text → Type 0) → Text → Tree → Trace → ℕ → Text → ℕ → Refusal
     → Type 0
 RefusesNamed Gave builds tree trace node path host r =
@@ -80,7 +80,7 @@ RefusesNamed Gave builds tree trace node path host r =
     ⊎ ((named : Text) × (path_of path ≡ Ok named)
     × RefusesAt Gave builds (λ text. RefusesGiven tree trace node named host text) r)
 
--- what is told of the trace of this name, or else of the path
+-- what is reported about the trace with this name, or else about the path
 abbrev pub RefusesBehind : (Text → Text → Type 0) → Text → Text → Tree → ℕ → Text → ℕ → Refusal
     → Type 0
 RefusesBehind Gave trace builds tree node path host r =
@@ -88,7 +88,7 @@ RefusesBehind Gave trace builds tree node path host r =
     ⊎ ((read : Trace) × IsSpelledAt Gave trace read
     × RefusesNamed Gave builds tree read node path host r)
 
--- what is told of the listing of this name, or else of the trace
+-- what is reported about the listing with this name, or else about the trace
 abbrev pub RefusesWayOn : (Text → Text → Type 0) → Text → Text → Text → Bool → ℕ → Text → ℕ
     → Refusal → Type 0
 RefusesWayOn Gave listing trace builds is_single node path host r =

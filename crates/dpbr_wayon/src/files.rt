@@ -1,4 +1,4 @@
-//! The answer of `dpbr wayon` to its files.
+//! The result of `dpbr wayon` for its files.
 ghost use Rattle.std.specs.Prelude.{◌≡◌, IfErr, IfOk};
 ghost use Rattle.dpbr_wayon.specs.Refusals.{RefusesBehind, RefusesWayOn};
 ghost use Rattle.dpbr_wayon.specs.WayOn.{HasWayOn, IsWayOn};
@@ -6,13 +6,13 @@ ghost use Rattle.dpbr_wayon.specs.WayOn.{HasWayOn, IsWayOn};
 use crate::reading::path_of_text;
 use crate::target::Target;
 use crate::text::way_of_events;
+use input_files::{builds_of_name, trace_of_name};
 use listing::Tree;
-use program::{Answer, NamedTexts, Refusal, tree_of_name};
+use program_io::{Answer, NamedTexts, Refusal, tree_of_name};
 use std::alloc::Global;
-use trace_files::{builds_of_name, trace_of_name};
 
-/// The answer to the listing, the trace and the files for paths of these names. Each is read before
-/// the next, and the path of the target before the last of them.
+/// The result for the listing, the trace and the files for paths with these names. Each is read
+/// before the next, and the target's path is parsed before the last of them is read.
 pub fn wayon_of_files<T: NamedTexts>(
     texts: &T,
     alloc: Global,
@@ -32,7 +32,7 @@ pub fn wayon_of_files<T: NamedTexts>(
     wayon_in_files(texts, alloc, &tree, trace, target, builds)
 }
 
-/// The answer to a tree and the trace and the files of these names.
+/// The result for a tree, and the trace and the files with these names.
 fn wayon_in_files<T: NamedTexts>(
     texts: &T,
     alloc: Global,

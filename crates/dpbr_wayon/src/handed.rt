@@ -1,4 +1,4 @@
-//! What is handed over of the files that are given.
+//! Selecting the files of one unit.
 ghost use Rattle.std.specs.Prelude.{◌≡◌, ◌<◌, All, IfOk, length, map};
 ghost use Rattle.dpbr_wayon.specs.WayOn.{given_at, given_of};
 ghost use Rattle.engine.specs.Division.{number_found};
@@ -12,7 +12,7 @@ use pkgpath::PkgPath;
 use protocol::{ByPath, Packages};
 use std::alloc::Global;
 
-/// Of the files that are given, those of the unit that the path names, in its packages' order.
+/// The files for the packages of the unit that the path names, in the packages' order.
 pub(crate) fn handed_over(
     alloc: Global,
     tree: &Tree,
@@ -33,7 +33,7 @@ pub(crate) fn handed_over(
     }
 }
 
-/// Those of these packages for which files are given, with their files.
+/// Those of these packages for which there are files, with their files.
 fn given_to(
     alloc: Global,
     tree: &Tree,
@@ -53,7 +53,7 @@ fn given_to(
     Ok(Packages::new(items))
 }
 
-/// An equal path with equal files.
+/// A copy of the path and the files.
 fn with_path(path: &PkgPath, files: &Files) -> Result<(PkgPath, Files), Memory>
     ensures { IfOk result (λ p. p ≡ (path.now, files.now)) }
 {

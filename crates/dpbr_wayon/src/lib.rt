@@ -1,5 +1,5 @@
-//! What `dpbr wayon` does: from a listing, a trace and files to a trace with further events, which
-//! lead to where a node holds the packages of a path.
+//! What `dpbr wayon` does: given a listing, a trace and files, it extends the trace with further
+//! events, which lead to a world where a node holds the packages of a path.
 #![tactic(auto)]
 
 mod files;
@@ -12,4 +12,4 @@ mod writable;
 pub use crate::files::wayon_of_files;
 pub use crate::target::Target;
 pub use crate::text::way_of_events;
-pub use way::{WayFault, way_on};
+pub use ways_on::{WayFault, way_on};

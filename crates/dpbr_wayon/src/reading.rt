@@ -1,11 +1,11 @@
-//! The path among the words of `dpbr wayon`.
+//! The path among the arguments of `dpbr wayon`.
 ghost use Rattle.std.specs.Prelude.{◌≡◌, ◌⊎◌, IfErr, IfOk, Ok};
 ghost use Rattle.dpbr_wayon.specs.Refusals.{RefusesPath};
 ghost use Rattle.pkgpath.specs.PkgPath as paths;
-ghost use Rattle.program.specs.Refusals.{memory_refusal};
+ghost use Rattle.program_io.specs.Refusals.{memory_refusal};
 
 use pkgpath::PkgPath;
-use program::Refusal;
+use program_io::Refusal;
 use std::alloc::Global;
 
 /// The path that the text spells.

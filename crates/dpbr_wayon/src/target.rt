@@ -1,7 +1,7 @@
-//! Where a way is to lead.
+//! The target of a way.
 
-/// The node is to hold the packages of the path's unit, and the host is to build them. The path is
-/// a text, which may be no package path.
+/// The node that should hold the packages of the path's unit, and the host that should build them.
+/// The path is a text, which may not be a package path.
 #[derive(Clone, Copy, Debug)]
 pub struct Target<'a> {
     pub node: u8,

@@ -3,9 +3,9 @@ ghost use Rattle.std.specs.Prelude.{◌≡◌, ◌⊎◌, ◌++◌, ◌∷◌, [
 ghost use Rattle.ballots.specs.Weights.{AreWeights};
 ghost use Rattle.dpbr_wayon.specs.Refusals.{RefusesTaken, RefusesWay};
 ghost use Rattle.dpbr_wayon.specs.WayOn.{IsAfter, IsWritten};
-ghost use Rattle.events.specs.Events.{event_view};
+ghost use Rattle.protocol.specs.Events.{event_view};
 ghost use Rattle.faults.specs.Bytes.{line_feed};
-ghost use Rattle.program.specs.Refusals.{memory_refusal};
+ghost use Rattle.program_io.specs.Refusals.{memory_refusal};
 ghost use Rattle.traces.specs.Again.{IsTextEvent};
 ghost use Rattle.traces.specs.Faults.{trace_view};
 ghost use Rattle.traces.specs.Trace.{trace_of};
@@ -14,24 +14,22 @@ ghost use Rattle.traces.specs.Written.{trace_text};
 use crate::handed::handed_over;
 use crate::writable::can_be_written;
 use ballots::Weights;
-use events::Event;
 use faults::Memory;
 use listing::Tree;
 use pkgpath::PkgPath;
-use program::Refusal;
-use protocol::Packages;
-use running::{World, run};
+use program_io::Refusal;
+use protocol::{Event, Packages};
 use std::alloc::Global;
 use traces::{Trace, write_trace};
-use way::way_on;
+use ways_on::{World, run, way_on};
 
-/// What is printed of a way to where the node holds the unit that the path names, for this host and
-/// these files, after the trace was run: the trace of its events and then the way's, and a line
-/// feed.
+/// What is printed after the trace was run: the trace of its events, followed by those of a way,
+/// and a line feed. The way leads to a world where the node holds the unit that the path names, and
+/// uses this host and these files.
 ///
 /// # Errors
 ///
-/// Memory; else that of the trace's first event that is refused; else why no way is told.
+/// Out of memory; that of the trace's first refused event; why no way is found. In this order.
 pub fn way_of_events(
     alloc: Global,
     tree: &Tree,
@@ -56,8 +54,8 @@ pub fn way_of_events(
     }
 }
 
-/// The same of the world that the trace led to. The way is told before the world goes for its
-/// events.
+/// What is printed of a way in the world that the trace led to. The way is computed before the
+/// world is consumed for its events.
 fn way_text(
     alloc: Global,
     world: World<'_>,

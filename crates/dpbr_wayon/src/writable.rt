@@ -1,20 +1,19 @@
-//! Events that a trace can have, so that they are read again as they were. Nothing is done with
-//! them: what their types say is told of each.
+//! Events that a trace can contain, so that they are parsed as they were. These functions do
+//! nothing; their contracts follow from the types of the events.
 ghost use Rattle.std.specs.Prelude.{◌≤◌, All, map};
 ghost use Rattle.dpbr_wayon.specs.inside.Sound.{AreTextFiles, HaveTextNames, IsSound};
-ghost use Rattle.events.specs.Events.{event_view};
+ghost use Rattle.protocol.specs.Events.{event_view};
 ghost use Rattle.hex.specs.Hex.{IsBytes};
 ghost use Rattle.package_record.specs.FileView.{file_view};
 ghost use Rattle.pkgpath.specs.PkgPath.{IsPath};
 ghost use Rattle.traces.specs.Again.{AreLeft, IsTextEvent, IsTextPackage};
 ghost use Rattle.traces.specs.Events.{most};
 
-use events::{Event, Left};
 use package_record::{File, Files};
 use pkgpath::PkgPath;
-use protocol::Packages;
+use protocol::{Event, Left, Packages};
 
-/// A trace can have these events, if names of their files are text and their stops are inside
+/// A trace can contain these events if names of their files are text and their stops are during
 /// steps.
 pub(crate) fn can_be_written(events: &[Event])
     ensures { All IsSound (map event_view events.now)
@@ -25,7 +24,7 @@ pub(crate) fn can_be_written(events: &[Event])
     }
 }
 
-/// And so each of them.
+/// A trace can contain this event, on the same condition.
 fn event_can_be_written(event: &Event)
     ensures { IsSound (event_view event.now) → IsTextEvent (event_view event.now) }
 {
@@ -79,7 +78,7 @@ fn are_numbers(host: u16, number: u64)
     ensures number { number ≤ most }
 {}
 
-/// What is left of a note are bytes.
+/// What is left of a note consists of bytes.
 fn are_left(left: &Left)
     ensures { AreLeft left.now }
 {
@@ -111,7 +110,7 @@ fn package_can_be_written(one: &(PkgPath, Files))
     files_are_bytes(files.as_slice());
 }
 
-/// What these files have are bytes.
+/// The files consist of bytes.
 fn files_are_bytes(files: &[File])
     ensures { All (λ f. IsBytes f.bytes) (map file_view files.now) }
 {

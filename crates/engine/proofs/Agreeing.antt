@@ -1,4 +1,4 @@
--- What changes where one more package is held.
+-- The effects of holding one more package.
 use Rattle.std.proofs.Common.{◌≡◌, ◌≢◌, ◌<◌, ◌⊎◌, ℕ, Bool, true, false, List, All, Contains, Some, get_or, length, set, refl, sym, ap, ◌∙◌, subst, inl, inr, arith}
 use Rattle.std.proofs.lemmas.Bool.{both_ways, cases_Bool, cases_eq}
 use Rattle.std.proofs.lemmas.List.{get_or-set_other, get_or-set_same, length-map, length-set}
@@ -30,7 +30,7 @@ numbered d waits p B other fits = fits
 numbered d waits p I other fits = fits
 numbered d waits p Ignored other fits = absurd (other refl)
 
--- ---- the set that is agreed
+-- ---- the set of agreed packages
 
 -- a package that is held is agreed
 pub agreed_again : (d : Division) (letters : List Letter) (p : ℕ) (s : State) → state_of d.tree letters ≡ s → holds letters p ≡ true
@@ -55,14 +55,14 @@ module _ (d : Division) (letters now : List Letter) (p : ℕ) (s : State) (is : 
             ∙ marked_set-more (held_marks letters) p (omega (arith, within, length-map letters is_held))) i;
       })
 
--- ---- what is kept
+-- ---- the invariant
 
 module _ {d : Division} {letters : List Letter} {lacks waits : List ℕ} {runs needs : List (List ℕ)} {search : Walked} (kept : AreKept d letters lacks waits runs needs search)
     (p : ℕ) (within : p < length d.tree) (not_held : holds letters p ≡ false) where
   inside : p < length letters
   inside = omega (arith, within, kept.queueing.are_fitting.each_letter)
 
-  -- the units wait for as many as before
+  -- the units wait for the same number of packages as before
   pub AreQueueing-built : letter_at letters p ≢ Ignored → AreQueueing d (set letters p B) waits
   AreQueueing-built not_ignored = record {
     are_fitting = record {
@@ -84,7 +84,7 @@ module _ {d : Division} {letters : List Letter} {lacks waits : List ℕ} {runs n
     ]));
   }
 
-  -- those that become installable with the package are known, and have the letter I
+  -- the packages that become installable with this one are known, and get the letter I
   pub AreKept-agreed : (now : List Letter) (less fewer found : List ℕ) (after : Walked)
       → IsSettled (set letters p B) lacks less runs p found → length less ≡ length lacks
       → ((q : ℕ) → is_held (letter_at now q) ≡ is_held (letter_at (set letters p B) q))
@@ -105,7 +105,7 @@ module _ {d : Division} {letters : List Letter} {lacks waits : List ℕ} {runs n
     over_all = over_all;
   }
 
-  -- a package that needs one that is not held becomes not installable, and no other does
+  -- a package that needs one that is not held is not installable, and no other becomes so
   pub AreKept-waiting : letter_at letters p ≢ Ignored → (e : ℕ) → Contains (run_at d.tree p) e → is_held (letter_at (set letters p B) e) ≡ false
       → AreKept d (set letters p B) lacks waits runs needs search
   AreKept-waiting not_ignored e needed lacking = record {

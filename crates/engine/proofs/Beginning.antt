@@ -1,4 +1,4 @@
--- What is kept where nothing is held.
+-- The parts of an engine if nothing is held.
 use Rattle.std.proofs.Common.{◌≡◌, ◌+◌, ◌<◌, ◌^◌, ℕ, false, not, cond, List, [], ◌∷◌, get_or, length, set, refl, sym, ap, ◌∙◌, subst, inl, inr, arith}
 use borrow.Author.Count.{below_more}
 use Rattle.std.proofs.lemmas.Bool.{cases_eq, true≢false}
@@ -21,7 +21,7 @@ not_held_installed B e = refl
 not_held_installed I e = e
 not_held_installed Ignored e = refl
 
--- all are waited for
+-- every package is waited for
 all_waited : (letters : List Letter) (ps : List ℕ) → ((p : ℕ) → holds letters p ≡ false) → waited_for letters ps ≡ length ps
 all_waited letters [] none = refl
 all_waited letters (p ∷ ps) none =
@@ -51,7 +51,7 @@ AreKept-first d letters lacks waits runs needs search fitting none counted each 
   over_all = over_all;
 }
 
--- ---- letters are put
+-- ---- storing the letters
 
 module _ (letters : List Letter) (n : ℕ) (letter : Letter) (inside : n < length letters) where
   pub fit_more : (d : Division) (waits : List ℕ) → FitsUnit d waits n letter → ((p : ℕ) → p < n → FitsUnit d waits p (letter_at letters p))

@@ -49,14 +49,14 @@ module _ (words : List ℕ) (start n w : ℕ) (within : start ≤ n) (is : w ≡
         ap (λ v. bit_at v (p % 64)) (ap (λ k. get_or words k 0) place ∙ sym is) ∙ lowest.2 (p % 64) (omega (arith, place, before))
   ]
 
--- where no word is other than 0, no bit is set
+-- if all words are 0, no bit is set
 pub words-clear : (words : List ℕ) (start : ℕ) → ((k : ℕ) → start ≤ k → k < length words → get_or words k 0 ≡ 0) → (p : ℕ) → start * 64 ≤ p → bit_in words p ≡ 0
 words-clear words start none p behind = elim (cases_lt (p / 64) (length words)) [
   | inl within ↦ ap (λ v. bit_at v (p % 64)) (none (p / 64) (omega (arith, behind)) within) ∙ bit_at-zero (p % 64)
   | inr past ↦ ap (λ v. bit_at v (p % 64)) (get_or_past words (p / 64) 0 past) ∙ bit_at-zero (p % 64)
 ]
 
--- the bits of a word from a position of it on
+-- the bits of a word from one of its positions on
 module _ (words : List ℕ) (from w : ℕ) (is : w ≡ get_or words (from / 64) 0) (fits : w < 2 ^ 64) where
   abbrev rest : ℕ
   rest = w / 2 ^ (from % 64)
@@ -68,7 +68,7 @@ module _ (words : List ℕ) (from w : ℕ) (is : w ≡ get_or words (from / 64) 
       ap (λ k. bit_at (get_or words k 0) ((from + i) % 64)) place ∙ ap (λ v. bit_at v ((from + i) % 64)) (sym is) ∙ ap (bit_at w) bit
       ∙ sym (ap (λ v. v % 2) (shr-shr w (from % 64) i))
 
-  -- what is behind the word's last bit is not in the rest
+  -- the rest of a word has no bits beyond the word's last bit
   rest-within : (i : ℕ) → bit_at rest i ≡ 1 → from % 64 + i < 64
   rest-within i set = elim (cases_lt (from % 64 + i) 64) [
     | inl below ↦ below
@@ -97,7 +97,7 @@ module _ (words : List ℕ) (from w : ℕ) (is : w ≡ get_or words (from / 64) 
       let e : p ≡ from + (p - from) = omega (arith, behind) in
       ap (bit_in words) e ∙ rest-bit (p - from) (omega (arith, behind, before)) ∙ ap (λ v. bit_at v (p - from)) none ∙ bit_at-zero (p - from)
 
--- a letter is put in place of another, and its bit with it
+-- a letter is replaced, and its bit is updated
 pub HasQueued-set : (letters : List Letter) (row now : Row) (p : ℕ) (letter : Letter) → p < length letters → HasQueued letters row
     → length now.words.items ≡ length row.words.items → bit_of now p ≡ one_if (is_queued letter) → ((q : ℕ) → q ≢ p → bit_of now q ≡ bit_of row q)
     → HasQueued (set letters p letter) now

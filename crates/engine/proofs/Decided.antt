@@ -1,5 +1,6 @@
--- Which packages are installable can be told: the greatest set of held packages that has all run
--- dependencies of its members is found by taking out, one after the other, members that lack one.
+-- Whether a package is installable is decidable. The greatest set of held packages that contains
+-- all run dependencies of its members is found by removing, one after another, members that lack
+-- one.
 use Rattle.std.proofs.Common.{◌≡◌, ◌≢◌, ◌&&◌, ◌==◌, ◌<◌, ◌⊎◌, ℕ, zero, suc, Bool, true, false, not, List, [], ◌∷◌, All, Any, Contains, length, refl, sym, ap, ◌∙◌, subst, inl, inr, arith}
 use Rattle.std.proofs.lemmas.Bool.{and_from, and_parts, cases_Bool, cases_eq, cases_lt, eq-eqb, ne_eqb, true≢false}
 use Rattle.std.proofs.lemmas.List.{get_or_past}
@@ -12,7 +13,7 @@ use Rattle.engine.proofs.SoMany.{so_many-less, so_many-some}
 -- ---- one of two conditions at each position
 
 module _ (P N : ℕ → Type 0) (each : (d : ℕ) → P d ⊎ N d) where
-  -- all in a list meet the one, or some one there meets the other
+  -- either all elements satisfy the one condition, or some element satisfies the other
   pub all_or_any : (xs : List ℕ) → All P xs ⊎ Any N xs
   all_or_any [] = inl (λ k d inside. absurd (omega arith))
   all_or_any (x ∷ xs) = elim (each x) [
@@ -23,7 +24,7 @@ module _ (P N : ℕ → Type 0) (each : (d : ℕ) → P d ⊎ N d) where
     ]
   ]
 
-  -- so it is with the positions below n
+  -- the same for the positions below n
   all_or_some : (n : ℕ) → ((q : ℕ) → q < n → P q) ⊎ ((q : ℕ) × (q < n) × N q)
   all_or_some zero = inl (λ q below. absurd (omega arith))
   all_or_some (suc n) = elim (each n) [
@@ -37,7 +38,7 @@ module _ (P N : ℕ → Type 0) (each : (d : ℕ) → P d ⊎ N d) where
     ]
   ]
 
--- of the positions below n so many pass a test
+-- some number of the positions below n pass the test
 so_many_pass : (S : ℕ → Bool) (n : ℕ) → (m : ℕ) × AreSoMany (λ q. S q ≡ true) n m
 so_many_pass S zero = (0, refl)
 so_many_pass S (suc n) = elim (cases_Bool (S n)) [
@@ -48,18 +49,18 @@ so_many_pass S (suc n) = elim (cases_Bool (S n)) [
 
 -- ---- the greatest closed set
 
--- each member's lists lead to members
+-- the lists of members contain only members
 abbrev IsClosed : (ℕ → List ℕ) → (ℕ → Bool) → Type 0
 IsClosed next S = (q d : ℕ) → S q ≡ true → Contains (next q) d → S d ≡ true
 
--- R is the greatest closed set within S
+-- R is the greatest closed subset of S
 record IsGreatest (next : ℕ → List ℕ) (S R : ℕ → Bool) : Type 0 where
   within : (q : ℕ) → R q ≡ true → S q ≡ true
   closed : IsClosed next R
   greatest : (among : ℕ → Bool) → ((q : ℕ) → among q ≡ true → S q ≡ true)
       → IsClosed next among → (q : ℕ) → among q ≡ true → R q ≡ true
 
--- the set without one of its members
+-- the set without one element
 abbrev without : ℕ → (ℕ → Bool) → ℕ → Bool
 without p S q = not (q == p) && S q
 
@@ -74,9 +75,9 @@ without-itself : (p : ℕ) (S : ℕ → Bool) → without p S p ≡ true → ⊥
 without-itself p S is =
     true≢false (sym (and_parts (not (p == p)) (S p) is).0 ∙ ap not (eq-eqb p p refl))
 
--- the lists lead from positions below n alone
+-- only positions below n have lists that aren't empty
 module _ (next : ℕ → List ℕ) (n : ℕ) (listed : (q d : ℕ) → Contains (next q) d → q < n) where
-  -- a member that leads to members alone, or to one that is none
+  -- a member whose list has only members, or one whose list has something else
   abbrev IsMet : (ℕ → Bool) → ℕ → Type 0
   IsMet S q = S q ≡ true → All (λ d. S d ≡ true) (next q)
 
@@ -101,7 +102,7 @@ module _ (next : ℕ → List ℕ) (n : ℕ) (listed : (q d : ℕ) → Contains 
     named : Contains (next at) needed
     out : S needed ≡ false
 
-  -- a set is closed, or has such a member
+  -- a set is closed, or has a member of the second kind
   closed_or_not : (S : ℕ → Bool) → IsGreatest next S S ⊎ Unmet S
   closed_or_not S = elim (all_or_some (IsMet S) (IsUnmet S) (met_or_not S) n) [
     | inl all ↦ inl (record {
@@ -120,7 +121,7 @@ module _ (next : ℕ → List ℕ) (n : ℕ) (listed : (q d : ℕ) → Contains 
     })
   ]
 
-  -- the greatest closed set within the set without such a member is that within the set
+  -- removing such a member doesn't change the greatest closed subset
   greatest-without : (S R : ℕ → Bool) (u : Unmet S) → IsGreatest next (without u.at S) R
       → IsGreatest next S R
   greatest-without S R u g = record {
@@ -136,7 +137,7 @@ module _ (next : ℕ → List ℕ) (n : ℕ) (listed : (q d : ℕ) → Contains 
           let there : among u.at ≡ true = subst (λ x. among x ≡ true) same is in
           true≢false (sym (inside u.needed (closed u.at u.needed there u.named)) ∙ u.out)
 
-  -- each set has its greatest closed set: such members are taken out until there is none
+  -- each set has a greatest closed subset: such members are removed until there are none
   greatest_within : (m : ℕ) (S : ℕ → Bool) → AreSoMany (λ q. S q ≡ true) n m
       → (R : ℕ → Bool) × IsGreatest next S R
   greatest_within zero S are = elim (closed_or_not S) [
@@ -156,7 +157,7 @@ module _ (next : ℕ → List ℕ) (n : ℕ) (listed : (q d : ℕ) → Contains 
 
 -- ---- packages
 
--- past the end of a tree nothing has run dependencies
+-- positions out of range have no run dependencies
 run_listed : (tree : Tree) (q d : ℕ) → Contains (run_at tree q) d → q < length tree
 run_listed tree q d named = elim (cases_lt q (length tree)) [
   | inl below ↦ below

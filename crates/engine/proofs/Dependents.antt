@@ -1,4 +1,4 @@
--- Who depends on whom, and where that leads from the marked packages.
+-- Reversed dependency lists, and where they lead from the marked packages.
 use Rattle.std.proofs.Common.{◌≡◌, ◌+◌, ◌<◌, ◌≤◌, ◌++◌, ◌∷◌, [], ℕ, Bool, true, false, All, Contains, List, cond, filter, get_or, length, nat_eq, set, sym, ap, ◌∙◌, subst, inl, inr, ⊎_elim, arith}
 use borrow.Author.Count.{below_more}
 use Rattle.std.proofs.lemmas.Bool.{and_from, and_parts, cases_lt}
@@ -20,7 +20,7 @@ use Rattle.engine.proofs.Lists.{below_in, contains_in, filter_next, in_below, in
 
 -- ---- what a package depends on is listed, and so is the package
 
--- a position past the end has no list
+-- a position that is out of range has an empty list
 listed_by : (tree : Tree) (x d : ℕ) (ps : List ℕ) → (x < length tree → ArePositions tree ps) → (length tree ≤ x → ps ≡ []) → Contains ps d → (x < length tree) × (d < length tree)
 listed_by tree x d ps are past needed = elim (cases_lt x (length tree)) [
   | inl within ↦ (within, All-contains (λ p. p < length tree) ps d (are within).within needed)
@@ -36,14 +36,14 @@ build_listed tree is x d = listed_by tree x d (build_at tree x) (λ within. is.b
 deps_listed : (tree : Tree) → IsTree tree → (x d : ℕ) → Contains (deps_at tree x) d → (x < length tree) × (d < length tree)
 deps_listed tree is x d needed = ⊎_elim (build_listed tree is x d) (run_listed tree is x d) (Contains-append_cases (build_at tree x) (run_at tree x) d needed)
 
--- ---- the lists are turned around
+-- ---- the lists are reversed
 
 added_twice : (b : Bool) (before mid after build run both : ℕ) → mid ≡ before + cond b build 0 → after ≡ mid + cond b run 0 → both ≡ build + run
     → after ≡ before + cond b both 0
 added_twice true before mid after build run both first second sum = omega arith
 added_twice false before mid after build run both first second sum = omega arith
 
--- of one package more
+-- one more package
 pub dependents_more : (tree : Tree) (n : ℕ) (lists mid more : List (List ℕ)) → AreReversed (length tree) n (deps_at tree) lists
     → length mid ≡ length lists → ((d x : ℕ) → times x (list_at mid d) ≡ times x (list_at lists d) + cond (nat_eq n x) (times d (build_at tree n)) 0)
     → length more ≡ length mid → ((d x : ℕ) → times x (list_at more d) ≡ times x (list_at mid d) + cond (nat_eq n x) (times d (run_at tree n)) 0)
@@ -77,7 +77,7 @@ marked_listed tree k d inside = (from_marked tree _ (Contains-get_or (marked_of 
 
 -- ---- marks at some positions
 
--- what holds when the first n of the positions are marked
+-- the invariant after the first n of the positions are marked
 pub record IsMarking (len : ℕ) (marks : List Bool) (ps : List ℕ) (n : ℕ) : Type 0 where
   pub each : length marks ≡ len
   pub all : (k : ℕ) → k < n → has_mark marks (get_or ps k 0) ≡ true
@@ -105,7 +105,7 @@ IsMarking-all len marks ps n are done = record {
 
 -- ---- the ignored packages
 
--- where nothing is marked nothing is ignored
+-- if nothing is marked, nothing is ignored
 pub none_ignored : (tree : Tree) (marked : List ℕ) (marks : List Bool) → marked ≡ marked_of tree → length marked ≡ 0
     → AreMarksOf (length tree) marked marks → AreIgnored tree marks
 none_ignored tree marked marks is none marks_are =
@@ -134,7 +134,7 @@ module _ (tree : Tree) (is : IsTree tree) {lists : List (List ℕ)} (are : AreRe
     | inr (leads_not, none) ↦ absurd (leads_not leads)
   ]
 
-  -- all that is found is in each set that holds the marked ones
+  -- everything found is in each set that contains the marked packages
   found_held : (S : ℕ → Bool) → HoldsTheMarked tree S → (p : ℕ) → Contains found p → S p ≡ true
   found_held S holds p member = found_reached p member S
       (λ k d inside. let marked = from_marked tree _ (Contains-get_or (marked_of tree) k d inside) in holds.marked _ marked.0 marked.1)
@@ -143,7 +143,7 @@ module _ (tree : Tree) (is : IsTree tree) {lists : List (List ℕ)} (are : AreRe
       let within = (deps_listed tree is d x needed).0 in
       ⊎_elim (λ build. holds.build d x within build in_S) (λ run. holds.run d x within run in_S) (Contains-append_cases (build_at tree d) (run_at tree d) x needed))
 
-  -- the marked ones are found, and what depends on a found one
+  -- the marked packages are found, and so is what depends on a found one
   pub found_ignored : (marks : List Bool) → AreMarksOf (length tree) found marks → AreIgnored tree marks
   found_ignored marks marks_are = record {
     each = marks_are.each;

@@ -20,7 +20,7 @@ use Rattle.engine.specs.inside.Gathering.{firsts, groups_below, is_first, is_wit
 use Rattle.engine.specs.inside.UnitKeeping.{AreAlike}
 
 module _ (tree : Tree) (ignored : ℕ → Bool) where
-  -- the least of its unit is the first of its group that is not ignored
+  -- the lowest of its unit is the first of its group that is not ignored
   least_is_first : (p : ℕ) → p < length tree → is_least tree ignored p ≡ is_first tree ignored p
   least_is_first p lt = ap (λ b. not (ignored p) && b) (same_answers _ _
       (λ all. ap not (not_true (list_any (is_with tree ignored p) (range_with_len 0 p)) (λ any.
@@ -40,7 +40,7 @@ module _ (tree : Tree) (ignored : ℕ → Bool) where
   pub units_are : units_with tree ignored ≡ map (λ p. unit_from tree (made_below tree ignored (length tree) p)) (firsts tree ignored (length tree))
   units_are = ap (map (unit_with tree ignored)) (filter_same (is_least tree ignored) (is_first tree ignored) (positions tree) (λ p member. least_is_first p (in_below (length tree) p member)))
 
-  -- a package is made with another where that is of its group and not ignored
+  -- a package is made with another if it is of that one's group and not ignored
   made_in : (f p : ℕ) → p < length tree → is_in (made_with tree ignored f) p ≡ is_with tree ignored f p
   made_in f p lt = in_kept (is_with tree ignored f) (positions tree) p ∙ ap (λ b. b && is_with tree ignored f p) (below_in (length tree) p lt)
 
@@ -53,7 +53,7 @@ module _ (tree : Tree) (ignored : ℕ → Bool) where
   pub made_contains : (f p : ℕ) → p < length tree → ignored p ≡ false → group_at tree p ≡ group_at tree f → Contains (made_with tree ignored f) p
   made_contains f p lt free same = in_contains (made_with tree ignored f) p (made_in f p lt ∙ with_from tree ignored f p free same)
 
-  -- the packages of a unit are alike
+  -- the packages of a unit are in one group
   pub made_alike : (p : ℕ) → p < length tree → ignored p ≡ false → AreAlike tree (made_with tree ignored p)
   made_alike p lt free = record {
     some = let member = made_contains p p lt free refl in omega (arith, member.1);
@@ -84,7 +84,7 @@ module _ (tree : Tree) (ignored : ℕ → Bool) where
   pub units_count : length (units_with tree ignored) ≡ length groups
   units_count = ap length units_are ∙ length-map leasts (λ p. unit_from tree (made_below tree ignored (length tree) p)) ∙ sym (length-map leasts (group_at tree))
 
-  -- the place of a group among those of the units
+  -- the index of a group among those of the units
   pub group_place : (p k : ℕ) → k < length leasts → group_at tree (get_or leasts k 0) ≡ group_at tree p → position (bytes_eq (group_at tree p)) groups ≡ Some k
   group_place p k lt same =
       let size = length-map leasts (group_at tree) in
@@ -124,7 +124,7 @@ module _ (tree : Tree) (ignored : ℕ → Bool) where
             ap (λ (t : ℕ → Bool). position t leasts) (λ i f. (ap (λ b. bytes_eq (group_at tree p) (group_at tree f) && not b) e ∙ and_true _) i)
             ∙ sym (position-map (bytes_eq (group_at tree p)) (group_at tree) leasts)
 
-    -- the number of a package that is in the unit with this number
+    -- the number of a package of the unit with this number
     pub number_here : (k p : ℕ) → k < length (units_with tree ignored) → Contains (get_or (units_with tree ignored) k no_unit).packages p
         → (p < length tree) × (ignored p ≡ false) × (group_at tree (get_or leasts k 0) ≡ group_at tree p)
         × (position (λ u. is_in u.packages p) (units_with tree ignored) ≡ Some k)
@@ -152,6 +152,6 @@ module _ (tree : Tree) (ignored : ℕ → Bool) where
           (unit_number place.0 within).1 ∙ same_unit (get_or leasts place.0 0) p place.2,
         )
 
-    -- an ignored package has none
+    -- an ignored package has no number
     pub number_none : (p : ℕ) → p < length tree → ignored p ≡ true → position (λ u. is_in u.packages p) (units_with tree ignored) ≡ None
     number_none p lt e = number_is p lt ∙ cond-true (ignored p) None _ e

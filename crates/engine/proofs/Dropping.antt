@@ -1,4 +1,4 @@
--- How marked ones are dropped.
+-- How marked packages are dropped.
 use Rattle.std.proofs.Common.{◌≡◌, ◌+◌, ◌<◌, ◌≤◌, ℕ, zero, suc, Bool, true, false, cond, nat_eq, List, [], ◌∷◌, ◌++◌, All, Contains, get_or, length, set, refl, sym, ap, ◌∙◌, subst, inl, inr, arith}
 use borrow.Author.Count.{below_more}
 use Rattle.std.proofs.lemmas.Bool.{cases_eq, eq-eqb, ne_eqb, true≢false}
@@ -16,7 +16,7 @@ one_less_marked marks p within marked =
     let e = sum_by-set (λ (m : Bool). cond m 1 0) marks p false false within in
     omega (arith, rw marked at e)
 
--- what is marked after one mark was taken off was marked before
+-- what is marked after one mark was cleared was marked before
 pub marked_still : (marks : List Bool) (p q : ℕ) → p < length marks → has_mark (set marks p false) q ≡ true → has_mark marks q ≡ true
 marked_still marks p q within marked = elim (cases_eq q p) [
   | inl same ↦ absurd (true≢false (sym marked ∙ ap (has_mark (set marks p false)) same ∙ has_mark-same marks p false within))
@@ -45,7 +45,7 @@ AreParted-one marks dropped p within marked = record {
   as_many = omega (arith, one_less_marked marks p within marked, length_push dropped p);
 }
 
--- what holds when n of the positions have been looked at
+-- the invariant after n of the positions were examined
 pub record IsDropping (marks_before : List Bool) (dropped_before : List ℕ) (marks : List Bool) (dropped positions : List ℕ) (n : ℕ) : Type 0 where
   pub parted : AreParted marks_before marks dropped_before dropped
   pub each : length marks ≡ length marks_before
@@ -101,7 +101,7 @@ module _ {marks_before : List Bool} {dropped_before : List ℕ} {marks : List Bo
   pub room-left : (p room : ℕ) → p < length marks → has_mark marks p ≡ true → marked_many marks_before + length dropped_before ≤ room → length dropped < room
   room-left p room within marked room_for_all = omega (arith, before.parted.as_many, one_less_marked marks p within marked, room_for_all)
 
--- where one lacks something, what is added by its own lacks something
+-- if a package lacks something, so does what is added from its list
 pub dropped_one : (lacks : List ℕ) (marks : List Bool) (before now : List ℕ) (p : ℕ) → All (λ q. 0 < get_or lacks q 0) before → 0 < get_or lacks p 0
     → Adds (p ∷ []) marks before now → All (λ q. 0 < get_or lacks q 0) now
 dropped_one lacks marks before now p some here (added, is, new) =

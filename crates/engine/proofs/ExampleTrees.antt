@@ -1,4 +1,4 @@
--- Small trees that examples are about.
+-- Small trees for examples.
 use Rattle.std.proofs.Common.{◌≡◌, ℕ, true, false, zero, suc, sym, codes, List, [], ◌∷◌}
 use mathlib.Core.Bool.{true≢false}
 use Rattle.faults.specs.Bytes.{Text}
@@ -16,7 +16,7 @@ pair_free zero h = true≢false (sym h)
 pair_free (suc zero) h = true≢false (sym h)
 pair_free (suc (suc q)) h = true≢false (sym h)
 
--- the same two, each a group by itself
+-- the same two, each a group of its own
 abbrev pub single_pair : Tree
 single_pair = listed (codes "a/b,-x") (codes "a/b,-x") [] ∷ listed (codes "a/b,-y") (codes "a/b,-y") (0 ∷ []) ∷ []
 

@@ -1,4 +1,4 @@
--- How the built ones that may become installable are found.
+-- How the built packages that may become installable are found.
 use Rattle.std.proofs.Common.{◌≡◌, ◌+◌, ◌<◌, ◌≤◌, ◌⊎◌, ℕ, Bool, true, false, List, [], ◌∷◌, ◌++◌, All, Contains, get_or, length, set, refl, sym, ap, ◌∙◌, subst, inl, inr, ⊎_elim, arith}
 use borrow.Author.Count.{below_more}
 use Rattle.std.proofs.lemmas.List.{get_or_append_left, get_or-set_same, length-set, length_push}
@@ -13,7 +13,7 @@ use Rattle.engine.specs.declared.Letter.{Letter}
 use Rattle.engine.specs.declared.Letter.TheVariants.{B}
 use Rattle.engine.specs.shared.Shown.{letter_at}
 
--- what holds when n of the positions have been looked at
+-- the invariant after n of the positions were examined
 pub record IsFinding (letters : List Letter) (marks_before : List Bool) (found_before : List ℕ) (marks : List Bool) (found positions : List ℕ) (n : ℕ) : Type 0 where
   pub are_found : AreFound marks found
   pub each : length marks ≡ length marks_before
@@ -62,7 +62,7 @@ module _ {letters : List Letter} {marks_before : List Bool} {found_before : List
     order = λ k below. get_or_append_left found (p ∷ []) 0 k (omega (arith, before.longer)) ∙ before.order k below;
   }
 
--- what holds when the lists of the first n found ones have been followed
+-- the invariant after the lists of the first n found ones were followed
 pub record IsFollowing (letters : List Letter) (runs : List (List ℕ)) (marks_before marks : List Bool) (found : List ℕ) (n : ℕ) : Type 0 where
   pub are_found : AreFound marks found
   pub each : length marks ≡ length marks_before

@@ -25,7 +25,7 @@ use Rattle.listing.specs.Tree.{IsTree, Tree, path_at, position_of}
 use Rattle.engine.proofs.Places.{has_position, listed_at}
 use Rattle.engine.specs.Units.{in_order_of_path}
 
--- ---- what f gives of a list's items
+-- ---- the results of f for a list's items
 
 from_given : (f : Text → Option ℕ) (ts : List Text) (q : ℕ) → Contains (filter_map f ts) q → (t : Text) × Contains ts t × (f t ≡ Some q)
 from_given f [] q member = absurd (no_members q member)
@@ -67,11 +67,11 @@ module _ (tree : Tree) (is : IsTree tree) where
       into_given (position_of tree) (set_of (map (path_at tree) ps)) (path_at tree q) q
       (into_set (map (path_at tree) ps) (path_at tree q) (contains_image (path_at tree) ps q member)) (has_position tree (path_at tree q) q is lt refl)
 
-  -- the order of one position
+  -- one position in order of path
   pub order_alone : (p : ℕ) → p < length tree → in_order_of_path tree (p ∷ []) ≡ p ∷ []
   order_alone p lt = ap (λ o. cons_option o []) (has_position tree (path_at tree p) p is lt refl)
 
-  -- texts that are paths of packages are those of their positions
+  -- texts that are paths of packages are the paths of their positions
   paths_back : (ts : List Text) → ((t : Text) → Contains ts t → (p : ℕ) × (p < length tree) × (path_at tree p ≡ t)) → map (path_at tree) (filter_map (position_of tree) ts) ≡ ts
   paths_back [] h = refl
   paths_back (t ∷ ts) h =
@@ -80,7 +80,7 @@ module _ (tree : Tree) (is : IsTree tree) where
       ap (λ o. map (path_at tree) (cons_option o (filter_map (position_of tree) ts))) (has_position tree t here.0 is here.1 here.2)
       ∙ (λ i. here.2 i ∷ tail i)
 
-  -- their paths are the set of their paths
+  -- in order of path, the paths are the set of paths
   pub order_paths : (ps : List ℕ) → ((p : ℕ) → Contains ps p → p < length tree) → map (path_at tree) (in_order_of_path tree ps) ≡ set_of (map (path_at tree) ps)
   order_paths ps listed = paths_back (set_of (map (path_at tree) ps)) (λ t member.
       let from = has_preimage (path_at tree) ps t (from_set (map (path_at tree) ps) t member) in
@@ -100,7 +100,7 @@ module _ (tree : Tree) (is : IsTree tree) where
       at_place : (xs : List ℕ) (k : ℕ) → k < length xs → Contains xs (get_or xs k 0)
       at_place xs k l = (k, l, get_or_default xs k (get_or xs k 0) 0 l)
 
--- two different members stand at the beginning of a list with more
+-- a list with two different members has at least two elements
 pub two_members : (xs : List ℕ) (p q : ℕ) → p ≢ q → Contains xs p → Contains xs q → (a b : ℕ) × (rest : List ℕ) × (xs ≡ a ∷ b ∷ rest)
 two_members [] p q apart mp mq = absurd (no_members p mp)
 two_members (a ∷ []) p q apart mp mq =
@@ -125,14 +125,14 @@ less_by Less e other = absurd (true≢false e)
 less_by Equal e other = absurd (other refl)
 less_by Greater e other = refl
 
--- sorted texts that differ ascend
+-- sorted texts that are distinct ascend
 sorted_pairs : (us : List Text) → IsSorted text_cmp us → AllPairs ◌≢◌ us → AllPairs (λ x y. text_cmp x y ≡ Less) us
 sorted_pairs us up differ i j d lt within =
     let far = sorted_far (λ x y. is_lt (text_cmp x y)) (ranks_by nat_list_cmp_total (λ x. x)) us up i j d (omega (arith, lt)) within in
     nat_list_cmp_total.antisymm (get_or us i d) (get_or us j d)
     ∙ less_by (text_cmp (get_or us j d) (get_or us i d)) far (λ same. differ i j d lt within (sym (same_texts (get_or us j d) (get_or us i d) same)))
 
--- a sorted permutation of texts that differ is their set
+-- a sorted permutation of distinct texts is their set
 pub sorted_set : (ts us : List Text) → AllPairs ◌≢◌ ts → IsPermutation ts us → IsSorted text_cmp us → us ≡ set_of ts
 sorted_set ts us differ moved up =
     let moved_differ = AllPairs-from_IsDistinct bytes_eq-Decides us (IsDistinct-IsPermutation bytes_eq nat_list_eq_equiv.symm ts us moved (IsDistinct-from_AllPairs bytes_eq-Decides ts differ)) in
@@ -140,13 +140,13 @@ sorted_set ts us differ moved up =
     (λ t member. into_set ts t (Contains-permutation us ts t (IsPermutation-sym ts us moved) member))
     (λ t member. Contains-permutation ts us t moved (from_set ts t member))
 
--- what was sorted by the texts that f gives
+-- items sorted by a key
 pub sorted_as_set : {X : Type 0} (f : X → Text) (xs ys : List X) (ts : List Text) → map f xs ≡ ts → AllPairs ◌≢◌ ts → IsPermutation xs ys
     → IsSortedBy (λ x y. is_lt (text_cmp (f x) (f y))) ys → map f ys ≡ set_of ts
 sorted_as_set f xs ys ts e differ moved up =
     sorted_set ts (map f ys) differ (subst (λ us. IsPermutation us (map f ys)) e (IsPermutation-map f xs ys moved)) (sorted_map f (λ x y. is_lt (text_cmp x y)) ys up)
 
--- ---- what f gives of one item more
+-- ---- the result of f for one more item
 
 given_one : (o : Option ℕ) → cons_option o [] ≡ option_to_list o
 given_one None = refl

@@ -1,4 +1,4 @@
--- What is kept of units is what they are.
+-- The stored units are the units of the tree.
 use Rattle.std.proofs.Common.{◌≡◌, ◌≢◌, ◌<◌, ◌≤◌, not, inl, inr, ℕ, zero, suc, Bool, true, false, List, [], ◌∷◌, Option, None, Some, length, map, filter, get_or, position, is_some, refl, sym, ap, subst, ◌∙◌, arith}
 use Rattle.std.specs.Prelude.{◌↔◌, All, Contains, Vec, option_and_then}
 use Rattle.std.specs.List.{IsDistinct, range_with_len}
@@ -33,11 +33,11 @@ use Rattle.graph.specs.Marks.{has_mark}
 use Rattle.engine.specs.shared.Marks.{AreIgnored}
 use Rattle.engine.specs.declared.gathering.Gathered.{Gathered}
 
--- marks of the ignored packages tell them
+-- marks of the ignored packages determine which packages are ignored
 pub marks_tell : (tree : Tree) (marks : List Bool) → AreIgnored tree marks → AreTheIgnored tree (has_mark marks)
 marks_tell tree marks are p = (are.ignored p, λ ignored. ignored (has_mark marks) are.spread)
 
--- the lists that are gathered are of packages that are alike
+-- the gathered lists are of packages in one group
 pub gathered_alike : {Z : Type 0} (tree : Tree) (ignored : ℕ → Bool) (vs : List (Vec ℕ Z)) → lists_of vs ≡ map (made_below tree ignored (length tree)) (firsts tree ignored (length tree))
     → All (λ v. AreAlike tree v.items) vs
 gathered_alike {Z} tree ignored vs e k d lt =
@@ -51,7 +51,7 @@ gathered_alike {Z} tree ignored vs e k d lt =
     sym (get_or-map items vs k d [] lt) ∙ ap (λ xs. get_or xs k []) e ∙ get_or-map (made_below tree ignored (length tree)) fs k 0 [] within in
     subst (AreAlike tree) (sym list) (made_alike tree ignored (get_or fs k 0) here.0 free)
 
--- the units of the lists that are gathered are those of the tree
+-- the units of the gathered lists are those of the tree
 same_units : (tree : Tree) (ignored : ℕ → Bool) (us : List Unit) (lists : List (List ℕ)) → us ≡ map (unit_from tree) lists
     → lists ≡ map (made_below tree ignored (length tree)) (firsts tree ignored (length tree)) → us ≡ units_with tree ignored
 same_units tree ignored us lists e f = e ∙ ap (map (unit_from tree)) f ∙ map_map (firsts tree ignored (length tree)) ∙ sym (units_are tree ignored)
@@ -85,7 +85,7 @@ groups_are tree ignored us keys is e f = record {
 
 -- ---- how a unit is found
 
--- the name of a unit of several packages is their group
+-- the name of a unit with several packages is its group
 name_of_several : (d : Division) (keys : List Text) (k : ℕ) → IsDivision d → AreGroups d keys → k < length d.units → 1 < length (unit_at d k).packages
     → (unit_at d k).name ≡ get_or keys k []
 name_of_several d keys k is are lt more =
@@ -107,13 +107,13 @@ name_of_several d keys k is are lt more =
     several_name tree is (p ∷ []) f alike long mine = absurd (long (ap length (order_alone tree is p (alike.listed p (0, omega arith, refl)))))
     several_name tree is (p ∷ q ∷ ps) f alike long mine = alike.alike p f (0, omega arith, refl) mine
 
--- a list of at most one that has a member is that member
+-- a list of at most one element that has a member is that member
 only : (xs : List ℕ) (f : ℕ) → length xs ≤ 1 → Contains xs f → xs ≡ f ∷ []
 only [] f le member = absurd (no_members f member)
 only (x ∷ []) f le member = elim (member_cases x f [] member) [ inl same ↦ ap (λ y. y ∷ []) same | inr later ↦ absurd (no_members f later) ]
 only (x ∷ y ∷ xs) f le member = absurd (omega arith)
 
--- a unit that is found by its name, and not by its group, has one package, and its path is the name
+-- a unit that is found by its name, but not by its group, has one package, whose path is the name
 alone_found : (d : Division) (keys : List Text) (j : ℕ) (path : Text) → IsDivision d → AreGroups d keys → number_named d path ≡ Some j
     → ((k : ℕ) → position (bytes_eq path) keys ≡ Some k → length (unit_at d k).packages ≤ 1) → option_and_then (number_of d) (position_of d.tree path) ≡ Some j
 alone_found d keys j path is are found few =
@@ -148,7 +148,7 @@ alone_found d keys j path is are found few =
         let path_is : path_at d.tree f ≡ path = sym (good.named.alone f (only (unit_at d j).packages f less member)) ∙ name in
         ap (option_and_then (number_of d)) (has_position d.tree path f is.tree first.0 path_is) ∙ one.0
 
--- a unit of several packages is found by its group, which is its name
+-- a unit with several packages is found by its group, which is its name
 pub several_found : (d : Division) (keys : List Text) (k : ℕ) (path : Text) → IsDivision d → AreGroups d keys → position (bytes_eq path) keys ≡ Some k
     → 1 < length (unit_at d k).packages → number_found d path ≡ Some k
 several_found d keys k path is are found more =
@@ -158,7 +158,7 @@ several_found d keys k path is are found more =
     let name : (unit_at d k).name ≡ path = name_of_several d keys k is are lt more ∙ sym key in
     ap (λ o. option_or o (option_and_then (number_of d) (position_of d.tree path))) (ap (number_named d) (sym name) ∙ name_is_found d k is lt)
 
--- and other paths are those of packages
+-- other paths are paths of packages
 pub path_found : (d : Division) (keys : List Text) (path : Text) → IsDivision d → AreGroups d keys
     → ((k : ℕ) → position (bytes_eq path) keys ≡ Some k → length (unit_at d k).packages ≤ 1) → number_found d path ≡ option_and_then (number_of d) (position_of d.tree path)
 path_found d keys path is are few = by (number_named d path) refl
@@ -167,7 +167,7 @@ path_found d keys path is are few = by (number_named d path) refl
     by None e = refl
     by (Some j) e = sym (alone_found d keys j path is are e few)
 
--- there are few units
+-- there are no more units than packages
 pub few_units : (d : Division) → IsDivision d → length d.units ≤ length d.tree
 few_units d is =
     let S = is.units.ignored in
@@ -195,7 +195,7 @@ unit_good d k is lt =
       is = ap (λ us. get_or us k no_unit) is.units.are ∙ unit.1;
     })
 
--- an ignored package has no number, and one that has none is ignored
+-- a package has no number if and only if it is ignored
 pub ignored_number : (d : Division) (p : ℕ) → IsDivision d → p < length d.tree → (is_some (number_of d p) ≡ false) ↔ IsIgnored d.tree p
 ignored_number d p is lt =
     let S = is.units.ignored in
@@ -210,7 +210,7 @@ ignored_number d p is lt =
         let some = number_some d.tree is.units.ignored is.tree p lt e in
         absurd (false≢true (sym none ∙ ap is_some (ap (position (λ (u : Unit). is_in u.packages p)) is.units.are ∙ some.2)))
 
--- what was gathered and made is kept as it is
+-- what was gathered and made satisfies the invariant
 pub kept_whole : (tree : Tree) (marks : List Bool) (g : Gathered) (ms : List Made) → IsTree tree → AreIgnored tree marks → AreGathered tree (has_mark marks) (length tree) g
     → map (unit_made tree) ms ≡ map (unit_from tree) (lists_of g.packages.items)
     → IsDivision (record { tree = tree; units = map (unit_made tree) ms })
@@ -228,7 +228,7 @@ kept_whole tree marks g ms is ignored are made =
 
 -- ---- the unit at a number
 
--- the unit there is the one that is kept there
+-- the unit there is the stored one
 pub kept_at : (tree : Tree) (ms : List Made) (k : ℕ) (m : Made) → k < length ms → m ≡ get_or ms k m
     → get_or (map (unit_made tree) ms) k no_unit ≡ unit_made tree m
 kept_at tree ms k m lt here = get_or-map (unit_made tree) ms k m no_unit lt ∙ ap (unit_made tree) (sym here)
@@ -245,7 +245,7 @@ name_alone_at d k is lt one =
     let first = Contains-get_or (unit_at d k).packages 0 0 (omega (arith, one)) in
     sym ((unit_good d k is lt).named.alone (get_or (unit_at d k).packages 0 0) (only (unit_at d k).packages _ (omega (arith, one)) first))
 
--- and with several
+-- the name of a unit with several packages
 pub name_group_at : (d : Division) (keys : List Text) (k : ℕ) → IsDivision d → AreGroups d keys → k < length d.units → length (unit_at d k).packages ≢ 1
     → group_at d.tree (get_or (unit_at d k).packages 0 0) ≡ (unit_at d k).name
 name_group_at d keys k is are lt more =
@@ -263,7 +263,7 @@ build_one tree [] build one = absurd (omega arith)
 build_one tree (p ∷ []) build one = refl
 build_one tree (p ∷ q ∷ ps) build one = absurd (omega arith)
 
--- something stands at each place
+-- there is an element at each index in range
 pub stands_at : {X : Type 0} (xs : List X) (k : ℕ) → k < length xs → (x : X) × (x ≡ get_or xs k x)
 stands_at [] k lt = absurd (omega arith)
 stands_at (x ∷ xs) zero lt = (x, refl)

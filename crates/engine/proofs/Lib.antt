@@ -34,3 +34,4 @@ mod UnitExamples
 mod Unmarked
 mod Waiting
 pub mod WellMade
+pub use Rattle.listing.proofs.Settings

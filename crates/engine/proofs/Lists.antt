@@ -27,7 +27,7 @@ pub and_false : (b : Bool) → (b && false) ≡ false
 and_false true = refl
 and_false false = refl
 
--- ---- what passes in a list
+-- ---- filtered lists
 
 pub kept_all : (P S : ℕ → Bool) (xs : List ℕ) → list_all P xs ≡ true → list_all P (filter S xs) ≡ true
 kept_all P S [] e = refl
@@ -63,7 +63,7 @@ any_some P (x ∷ xs) e =
     ⊎_elim (λ here. (x, or_left (x == x) _ (eq-eqb x x refl), here))
     (λ later. let rest = any_some P xs later in (rest.0, or_right (x == rest.0) _ rest.1, rest.2)) (or_cases (P x) _ e)
 
--- a member of what is kept is a member that passes
+-- a member of a filtered list is a member that passes
 pub in_kept : (P : ℕ → Bool) (xs : List ℕ) (q : ℕ) → is_in (filter P xs) q ≡ (is_in xs q && P q)
 in_kept P [] q = refl
 in_kept P (x ∷ xs) q = by (P x) (x == q) refl refl (in_kept P xs q)
@@ -76,7 +76,7 @@ in_kept P (x ∷ xs) q = by (P x) (x == q) refl refl (in_kept P xs q)
         rest ∙ ap (λ c. is_in xs q && c) fails ∙ and_false (is_in xs q) ∙ sym fails
     by false false p same rest = rest
 
--- nothing is kept where nothing passes
+-- if nothing passes, the filtered list is empty
 pub none_kept : (P : ℕ → Bool) (xs : List ℕ) → list_any P xs ≡ false → filter P xs ≡ []
 none_kept P [] e = refl
 none_kept P (x ∷ xs) e =
@@ -93,11 +93,11 @@ in_by q [] k d lt e = absurd (omega arith)
 in_by q (x ∷ xs) zero d lt e = or_left (x == q) _ (eq-eqb x q e)
 in_by q (x ∷ xs) (suc k) d lt e = or_right (x == q) _ (in_by q xs k d (omega arith) e)
 
--- what stands at a place is a member
+-- an element at an index is a member
 pub in_at : (xs : List ℕ) (k d : ℕ) → k < length xs → is_in xs (get_or xs k d) ≡ true
 in_at xs k d lt = in_by (get_or xs k d) xs k d lt refl
 
--- ---- the first numbers
+-- ---- ranges
 
 pub range_below : (a n b : ℕ) → a + n ≤ b → list_all (λ q. nat_lt q b) (range_with_len a n) ≡ true
 range_below a zero b le = refl
@@ -141,7 +141,7 @@ range_next n =
 pub filter_next : (P : ℕ → Bool) (n : ℕ) → filter P (range_with_len 0 (n + 1)) ≡ filter P (range_with_len 0 n) ++ cond (P n) (n ∷ []) []
 filter_next P n = ap (filter P) (range_next n) ∙ filter-append P (range_with_len 0 n) (n ∷ [])
 
--- what agrees on the members of a list keeps the same of it
+-- tests that agree on the members of a list filter it alike
 pub filter_same : (P S : ℕ → Bool) (xs : List ℕ) → ((q : ℕ) → is_in xs q ≡ true → P q ≡ S q) → filter P xs ≡ filter S xs
 filter_same P S [] h = refl
 filter_same P S (x ∷ xs) h =
@@ -156,7 +156,7 @@ map_same f g (x ∷ xs) h =
     let tail = map_same f g xs (λ q e. h q (or_right (x == q) _ e)) in
     λ i. head i ∷ tail i
 
--- ---- the first place where a test passes
+-- ---- the first index at which a test passes
 
 position_from-map : {X Y : Type 0} (t : Y → Bool) (f : X → Y) (n : ℕ) (xs : List X) → position_from t n (map f xs) ≡ position_from (λ x. t (f x)) n xs
 position_from-map t f n [] = refl
@@ -181,11 +181,11 @@ position_from-push t n k (x ∷ xs) y e = by (t x) e (position_from-push t (n + 
     by true found rest = found
     by false found rest = rest found
 
--- what is found stays where it is
+-- what is found in a list is found at the same index after an append
 pub position-push : {X : Type 0} (t : X → Bool) (k : ℕ) (xs : List X) (y : X) → position t xs ≡ Some k → position t (xs ++ y ∷ []) ≡ Some k
 position-push t k xs y e = position_from-zero t (xs ++ y ∷ []) ∙ position_from-push t 0 k xs y (sym (position_from-zero t xs) ∙ e)
 
--- where an element passes that is put behind the others, the first place stays the same, or is their number
+-- if a passing element is appended, the first index stays the same, or is the old length
 pub first_place-push : {X : Type 0} (t : X → Bool) (xs : List X) (y : X) → t y ≡ true → position_or_len t (xs ++ y ∷ []) ≡ position_or_len t xs
 first_place-push t [] y e = ap (λ b. cond (not b) 1 0) e
 first_place-push t (x ∷ xs) y e = ap (λ n. cond (not (t x)) (1 + n) 0) (first_place-push t xs y e)
@@ -194,7 +194,7 @@ place_by : (b : Bool) (n k : ℕ) → cond b (Some n) None ≡ Some k → n ≡ 
 place_by true n k e = cc
 place_by false n k e = cc
 
--- the place that is found is the first
+-- the index that is found is the first
 pub found_place : {X : Type 0} (t : X → Bool) (xs : List X) (k : ℕ) → position t xs ≡ Some k → position_or_len t xs ≡ k
 found_place t xs k e = place_by (nat_lt (position_or_len t xs) (length xs)) (position_or_len t xs) k e
 
@@ -206,7 +206,7 @@ place_from t n (x ∷ xs) e = by (t x) e (place_from t (n + 1) xs)
     by true e rest = (n, refl)
     by false e rest = rest e
 
--- there is a first place where something passes
+-- if some element passes, there is a first one
 pub place_there : {X : Type 0} (t : X → Bool) (xs : List X) → list_any t xs ≡ true → (k : ℕ) × (position t xs ≡ Some k)
 place_there t xs e = let from = place_from t 0 xs e in (from.0, position_from-zero t xs ∙ from.1)
 
@@ -232,7 +232,7 @@ from_new t n (x ∷ xs) y none here =
     let next : (n + 1) + length xs ≡ n + suc (length xs) = omega arith in
     ap (λ b. cond b (Some n) (position_from t (n + 1) (xs ++ y ∷ []))) parts.0 ∙ from_new t (n + 1) xs y parts.1 here ∙ ap (λ k. Some k) next
 
--- what passes first behind all that do not
+-- the appended element is the first that passes
 pub place_new : {X : Type 0} (t : X → Bool) (xs : List X) (y : X) → list_any t xs ≡ false → t y ≡ true → position t (xs ++ y ∷ []) ≡ Some (length xs)
 place_new t xs y none here =
     let last : 0 + length xs ≡ length xs = omega arith in

@@ -1,4 +1,4 @@
--- Counts by position that are raised and lowered.
+-- Counts by position that are incremented and decremented.
 use Rattle.std.proofs.Common.{◌≡◌, ◌+◌, ◌<◌, ◌≤◌, ℕ, List, get_or, length, set, take, ap, ◌∙◌, sym, inl, inr, arith}
 use Rattle.std.proofs.lemmas.Bool.{cases_eq, eq-eqb, ne_eqb}
 use Rattle.std.proofs.lemmas.List.{get_or-set_other, get_or-set_same}
@@ -38,7 +38,7 @@ module _ (lacks positions : List ℕ) (i p : ℕ) (listed : i < length positions
 here_one : (positions : List ℕ) (i : ℕ) → one_if (nat_eq (get_or positions i 0) (get_or positions i 0)) ≡ 1
 here_one positions i = ap one_if (eq-eqb (get_or positions i 0) (get_or positions i 0) refl)
 
--- the next sum fits
+-- the next sum doesn't overflow
 pub fits_more : (lacks now positions : List ℕ) (i : ℕ) → i < length positions → All (λ p. p < length lacks) positions
     → ((p : ℕ) → p < length lacks → get_or lacks p 0 + times p positions < 2 ^ 64)
     → ((p : ℕ) → p < length lacks → get_or now p 0 ≡ get_or lacks p 0 + times p (take i positions))

@@ -1,4 +1,4 @@
--- The set that marks make.
+-- The set of marked positions.
 use Rattle.std.proofs.Common.{◌≡◌, ◌≢◌, ◌<◌, ◌&&◌, ◌||◌, ℕ, zero, suc, Bool, true, false, cond, nat_lt, nat_eq, List, length, set, sym, ap, ◌∙◌, refl, inl, inr, arith}
 use Rattle.std.proofs.lemmas.List.{get_or_past}
 use Rattle.std.proofs.lemmas.Bool.{cases_eq, cases_lt, cases_order, lt-ltb, le-ltb, eq-eqb, ne_eqb}
@@ -47,7 +47,7 @@ pub marked_set-none : (marks : List Bool) → ((p : ℕ) → has_mark marks p �
 marked_set-none marks unmarked = finset.same_set nat_cmp_total nat_cmp-IsAntisymmetric _ _
     (λ q. contains-marked_set marks q ∙ unmarked q ∙ sym (finset.contains-empty nat_cmp q))
 
--- the same marks make the same set
+-- equal marks have equal sets
 pub marked_set-like : (marks others : List Bool) → ((p : ℕ) → has_mark marks p ≡ has_mark others p) → marked_set marks ≡ marked_set others
 marked_set-like marks others same = finset.same_set nat_cmp_total nat_cmp-IsAntisymmetric _ _
     (λ q. contains-marked_set marks q ∙ same q ∙ sym (contains-marked_set others q))
@@ -64,7 +64,7 @@ marked_set-more marks p within = finset.same_set nat_cmp_total nat_cmp-IsAntisym
       | inr other ↦ has_mark-other marks p q true other ∙ sym (ap (λ b. b || has_mark marks q) (ne_eqb q p other))
     ]
 
--- a mark put where one is
+-- setting a mark that is set changes nothing
 pub marked_set-same : (marks : List Bool) (p : ℕ) → has_mark marks p ≡ true → finset.insert (marked_set marks) p ≡ marked_set marks
 marked_set-same marks p marked = finset.same_set nat_cmp_total nat_cmp-IsAntisymmetric _ _
     (λ q. finset.contains-insert nat_cmp_total (marked_set marks) p q ∙ ap (λ b. b || finset.contains (marked_set marks) q) (unsigned_tied q p)

@@ -1,4 +1,4 @@
--- A unit is found by its name, since two units have two names.
+-- A unit is found by its name, since the names of units are distinct.
 use Rattle.std.proofs.Common.{◌≡◌, ◌==◌, ◌&&◌, ◌<◌, not, ℕ, Bool, true, false, List, [], ◌∷◌, Option, None, Some, ⊎_elim, refl, sym, subst, ap, ◌∙◌, arith, cond, eqb-true, filter, get_or, length, nat_le, nat_lt, position}
 use Rattle.std.proofs.lemmas.Bool.{and_from, and_parts, cond-true, false≢true, leb-true, lt-ltb, ltb-true}
 use Rattle.std.proofs.lemmas.List.{get_or-map, length-map}
@@ -10,16 +10,16 @@ use Rattle.std.proofs.lemmas.Slice.Eq.{bytes_eq-Decides}
 use Rattle.std.specs.List.{list_all}
 use Rattle.std.specs.Str.{bytes_eq}
 use Rattle.faults.specs.Bytes.{Text}
-use Rattle.pkgpath.proofs.Without.{without-once}
-use Rattle.pkgpath.specs.PkgPath.{IsPath, without_subpackage}
+use Rattle.listing.proofs.Without.{without-once}
+use Rattle.listing.specs.PkgPath.{IsPath, without_subpackage}
 use Rattle.listing.specs.Tree.{IsTree, Tree, group_at, no_package, path_at}
 use Rattle.engine.specs.Division.{Division, IsDivision, no_unit, number_named, unit_at}
 use Rattle.engine.proofs.Lists.{in_range, kept_all, kept_pass, not_true, passes, range_below, range_rising}
 use Rattle.engine.specs.Units.{Unit, is_in, is_least, made_with, name_of, positions, unit_with, units_with}
 
--- ---- a unit's name tells its group
+-- ---- a unit's name determines its group
 
--- what tells a group, of a path in it and of the name of its unit
+-- what determines a group, from a path in it and from the name of its unit
 pub record Tells (tree : Tree) : Type 0 where
   pub group_of : Text → Text
   pub path : (p : ℕ) → p < length tree → group_of (path_at tree p) ≡ group_at tree p
@@ -46,7 +46,7 @@ tells tree is = ⊎_elim
     is.groups
 
 module _ (tree : Tree) (is : IsTree tree) (ignored : ℕ → Bool) where
-  -- the test by which packages are made with that at p
+  -- the test for packages that are made with the one at p
   abbrev is_with : ℕ → ℕ → Bool
   is_with p q = bytes_eq (group_at tree q) (group_at tree p) && not (ignored q)
 
@@ -60,7 +60,7 @@ module _ (tree : Tree) (is : IsTree tree) (ignored : ℕ → Bool) where
       let same = (bytes_eq-Decides (group_at tree q) (group_at tree p)).0 (and_parts _ (not (ignored q)) (and_parts (is_with p q) _ with_p).0).0 in
       (tells tree is).group q (ltb-true q (length tree) (and_parts _ _ below).0) ∙ same
 
-  -- a package that is listed, and not ignored, is made with itself and with all of its group
+  -- a listed package that is not ignored is made with itself and with all of its group
   is_made : (p q : ℕ) → q < length tree → ignored q ≡ false → group_at tree q ≡ group_at tree p → is_in (made_with tree ignored p) q ≡ true
   is_made p q lt free same =
       any-filter_same (λ j. j == q) (is_with p) (is_with p q) (λ j t. ap (is_with p) (eqb-true j q t)) (positions tree)
@@ -75,7 +75,7 @@ module _ (tree : Tree) (is : IsTree tree) (ignored : ℕ → Bool) where
   not_ignored : (p : ℕ) → is_least tree ignored p ≡ true → ignored p ≡ false
   not_ignored p least = not_true (ignored p) (λ e. false≢true (sym (ap not e) ∙ (and_parts (not (ignored p)) _ least).0))
 
-  -- the least packages of two units with one name are one
+  -- the lowest packages of two units with equal names are equal
   one_least : (p q : ℕ) → p < length tree → q < length tree → is_least tree ignored p ≡ true → is_least tree ignored q ≡ true
       → (unit_with tree ignored p).name ≡ (unit_with tree ignored q).name → p ≡ q
   one_least p q ltp ltq leastp leastq same =
@@ -86,7 +86,7 @@ module _ (tree : Tree) (is : IsTree tree) (ignored : ℕ → Bool) where
       let high = leb-true q p (passes (nat_le q) (made_with tree ignored q) p (and_parts (not (ignored q)) _ leastq).1 (is_made q p ltp freep group)) in
       omega (arith, low, high)
 
-  -- the least packages, in order
+  -- the lowest package of each unit, in order
   abbrev leasts : List ℕ
   leasts = filter (is_least tree ignored) (positions tree)
 
@@ -122,11 +122,11 @@ name_is_found d k is lt =
     let P : List Unit → Type 0 = λ us. k < length us → position (λ u. bytes_eq u.name (get_or us k no_unit).name) us ≡ Some k in
     subst P (sym is.units.are) (found_among d.tree is.tree is.units.ignored k) lt
 
--- the number that is found, which is read only where one is
+-- the number that is found; read only if one is
 abbrev found_or : ℕ → Option ℕ → ℕ
 found_or j None = j
 found_or j (Some k) = k
 
--- two units have two names
+-- units with equal names are equal
 pub name_tells : (d : Division) (j k : ℕ) → IsDivision d → j < length d.units → k < length d.units → (unit_at d j).name ≡ (unit_at d k).name → j ≡ k
 name_tells d j k is ltj ltk same = ap (found_or j) (sym (name_is_found d j is ltj) ∙ ap (number_named d) same ∙ name_is_found d k is ltk)

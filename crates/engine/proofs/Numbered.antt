@@ -1,4 +1,4 @@
--- What the number of a package's unit tells.
+-- Properties of the number of a package's unit.
 use Rattle.std.proofs.Common.{◌≡◌, ◌<◌, ℕ, None, Some, length, sym, ◌∙◌}
 use Rattle.std.proofs.lemmas.Bool.{both_ways, true_from_ne_false}
 use Rattle.std.proofs.lemmas.List.Quantifiers.{position-Some}

@@ -1,11 +1,11 @@
--- A tree has one list of units, and a package one unit.
+-- A tree has only one list of units, and a package only one unit.
 use Rattle.std.proofs.Common.{◌≡◌, ℕ, Bool, List, sym, ap, ◌∙◌}
 use Rattle.listing.specs.Tree.{Tree}
 use Rattle.engine.proofs.Lists.{same_answers}
 use Rattle.engine.specs.Ignored.{AreTheIgnored}
 use Rattle.engine.specs.Units.{AreUnits, IsUnitOf, Unit, unit_with, units_with}
 
--- two tests that tell the ignored packages are one
+-- two tests for the ignored packages are equal
 one_test : (tree : Tree) (S T : ℕ → Bool) → AreTheIgnored tree S → AreTheIgnored tree T → S ≡ T
 one_test tree S T s t = λ i p. same_answers (S p) (T p) (λ h. (t p).1 ((s p).0 h)) (λ h. (s p).1 ((t p).0 h)) i
 

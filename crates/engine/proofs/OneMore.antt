@@ -1,4 +1,4 @@
--- What is gathered of a tree's packages, one more at a time.
+-- The packages of a tree are gathered, one at a time.
 use Rattle.std.proofs.Common.{◌≡◌, ◌≢◌, ◌&&◌, ◌||◌, ◌≤◌, ◌<◌, ◌+◌, ◌++◌, not, ℕ, zero, suc, Bool, true, false, List, [], ◌∷◌, Option, None, Some, inl, inr, refl, sym, subst, ap, ◌∙◌, arith, cond, get_or, length, map, position, set, Vec}
 use Rattle.std.proofs.lemmas.Bool.{and_from, and_parts, cases_order, cond_both, false≢true, not-true, or_parts}
 use Rattle.std.proofs.lemmas.List.{append-nil, get_or-map, length-map, map-append}
@@ -38,7 +38,7 @@ module _ (tree : Tree) (ignored : ℕ → Bool) where
       let parts = and_parts (bytes_eq (group_at tree q) (group_at tree p)) (not (ignored q)) e in
       (not-true (ignored q) parts.1, same_bytes (group_at tree q) (group_at tree p) parts.0)
 
-  -- the first of its group, up to a package that is not ignored
+  -- the first of its group, for a package that is not ignored
   abbrev pub FirstUpTo : ℕ → Type 0
   FirstUpTo q = (f : ℕ) × (f ≤ q) × (is_first tree ignored f ≡ true) × (group_at tree f ≡ group_at tree q)
 
@@ -82,7 +82,7 @@ module _ (tree : Tree) (ignored : ℕ → Bool) where
       let parts = and_parts _ _ (sym (in_kept (is_first tree ignored) (range_with_len 0 n) f) ∙ here) in
       (in_below n f parts.0, parts.1)
 
-  -- two of the first have two groups
+  -- the groups of two different first packages differ
   groups_differ : (n : ℕ) → AllPairs ◌≢◌ (groups_below tree ignored n)
   groups_differ n i j d lt within same =
       let fs = firsts tree ignored n in
@@ -97,7 +97,7 @@ module _ (tree : Tree) (ignored : ℕ → Bool) where
   pub groups_distinct : (n : ℕ) → IsDistinct bytes_eq (groups_below tree ignored n)
   groups_distinct n = IsDistinct-from_AllPairs bytes_eq-Decides (groups_below tree ignored n) (groups_differ n)
 
-  -- the group of a package is there where one before it is made with it
+  -- a package's group is there if an earlier package is made with it
   any_group : (n p : ℕ) → list_any (bytes_eq (group_at tree p)) (groups_below tree ignored n) ≡ list_any (is_with tree ignored p) (range_with_len 0 n)
   any_group n p = any-map (bytes_eq (group_at tree p)) (group_at tree) (firsts tree ignored n) ∙ same_answers _ _
       (λ e.
@@ -113,9 +113,9 @@ module _ (tree : Tree) (ignored : ℕ → Bool) where
       (in_kept (is_first tree ignored) (range_with_len 0 n) first.0 ∙ and_from _ _ (below_in n first.0 (omega (arith, first.1, below))) first.2)
       (equal_bytes _ _ (sym (first.3 ∙ parts.1))))
 
-  -- ---- one package more
+  -- ---- one more package
 
-  -- nothing changes where it is ignored
+  -- nothing changes if it is ignored
   first_ignored : (n : ℕ) → ignored n ≡ true → firsts tree ignored (n + 1) ≡ firsts tree ignored n
   first_ignored n e =
       let fails : is_first tree ignored n ≡ false = ap (λ b. not b && not (list_any (is_with tree ignored n) (range_with_len 0 n))) e in
@@ -126,7 +126,7 @@ module _ (tree : Tree) (ignored : ℕ → Bool) where
       let fails : is_with tree ignored p n ≡ false = ap (λ b. bytes_eq (group_at tree n) (group_at tree p) && not b) e ∙ and_false _ in
       filter_next (is_with tree ignored p) n ∙ ap (λ b. made_below tree ignored n p ++ cond b (n ∷ []) []) fails ∙ append-nil (made_below tree ignored n p)
 
-  -- its group is new or stands there
+  -- its group is new, or is there already
   groups_next : (n : ℕ) → ignored n ≡ false → groups_below tree ignored (n + 1) ≡ insert_key bytes_eq (groups_below tree ignored n) (group_at tree n)
   groups_next n free =
       let same = any_group n n in
@@ -140,7 +140,7 @@ module _ (tree : Tree) (ignored : ℕ → Bool) where
       by true = append-nil (groups_below tree ignored n)
       by false = refl
 
-  -- where a package stood keeps its place
+  -- earlier packages keep their indexes
   places_next : (n : ℕ) (p : ℕ) → p < n → place_of tree ignored (groups_below tree ignored n) p ≡ place_of tree ignored (groups_below tree ignored (n + 1)) p
   places_next n p lt = by (ignored n) (ignored p) refl refl
     where
@@ -174,7 +174,7 @@ module _ (tree : Tree) (ignored : ℕ → Bool) where
 
   -- ---- the packages of each unit
 
-  -- the group of the package at n is that of the one at f
+  -- the package at n is in the group of the one at f
   abbrev is_of : ℕ → ℕ → Bool
   is_of n f = bytes_eq (group_at tree n) (group_at tree f)
 
@@ -197,7 +197,7 @@ module _ (tree : Tree) (ignored : ℕ → Bool) where
       let tail = all_elsewhere n fs h.1 in
       λ i. head i ∷ tail i
 
-  -- one place further
+  -- one index further
   behind : (n f : ℕ) (fs : List ℕ)
       → put_at (made_below tree ignored n f ∷ map (made_below tree ignored n) fs) (1 + position_or_len (bytes_eq (group_at tree n)) (map (group_at tree) fs)) n
       ≡ made_below tree ignored n f ∷ put_at (map (made_below tree ignored n) fs) (position_or_len (bytes_eq (group_at tree n)) (map (group_at tree) fs)) n
@@ -206,7 +206,7 @@ module _ (tree : Tree) (ignored : ℕ → Bool) where
       let next : 1 + k ≡ suc k = omega arith in
       ap (λ m. put_at (made_below tree ignored n f ∷ map (made_below tree ignored n) fs) m n) next
 
-  -- it goes to the unit of its group, which is there
+  -- it is added to the unit of its group, if that is there
   put_known : (n : ℕ) (fs : List ℕ) → ignored n ≡ false → IsDistinct bytes_eq (map (group_at tree) fs) → list_any (bytes_eq (group_at tree n)) (map (group_at tree) fs) ≡ true
       → put_at (map (made_below tree ignored n) fs) (position_or_len (bytes_eq (group_at tree n)) (map (group_at tree) fs)) n ≡ map (made_below tree ignored (n + 1)) fs
   put_known n [] free once e = absurd (false≢true e)
@@ -265,7 +265,7 @@ module _ (tree : Tree) (ignored : ℕ → Bool) where
           ∙ sym (map-append (made_below tree ignored (n + 1)) (firsts tree ignored n) (n ∷ []))
           ∙ ap (map (made_below tree ignored (n + 1))) (sym more)
 
--- ---- what is gathered
+-- ---- the gathered state
 
 pub gathered_none : (tree : Tree) (ignored : ℕ → Bool) (g : Gathered) → g.groups.keys ≡ [] → g.packages.items ≡ [] → g.numbers.items ≡ [] → AreGathered tree ignored 0 g
 gathered_none tree ignored g e f h = record { groups = e; packages = ap lists_of f; numbers = h }
@@ -286,7 +286,7 @@ gathered_ignored tree ignored n g h are e groups packages numbers =
           ∙ places_more tree ignored n None (ap (λ b. cond b None (position (bytes_eq (group_at tree n)) (groups_below tree ignored (n + 1)))) (sym e));
     }
 
--- one that is not ignored
+-- a package that is not ignored
 pub gathered_more : (tree : Tree) (ignored : ℕ → Bool) (n : ℕ) (g h : Gathered) → AreGathered tree ignored n g → ignored n ≡ false → Takes (group_at tree n) n g h
     → AreGathered tree ignored (n + 1) h
 gathered_more tree ignored n g h are free takes =

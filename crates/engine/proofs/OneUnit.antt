@@ -19,13 +19,13 @@ use Rattle.engine.specs.inside.Gathering.{lists_of}
 use Rattle.engine.specs.inside.UnitKeeping.{AreAlike, build_kept, needed_by, needs_in_turn, unit_made}
 use Rattle.engine.specs.declared.making.Made.{Made}
 
--- ---- what a tree says
+-- ---- what a tree guarantees
 
 pub build_within : (tree : Tree) (p q : ℕ) → IsTree tree → p < length tree → Contains (build_at tree p) q → q < length tree
 build_within tree p q is lt member =
     All-contains (λ r. r < length tree) (build_at tree p) q (All-get_or (λ x. ArePositions tree x.build) tree p no_package lt is.build).within member
 
--- ---- what is needed
+-- ---- the dependencies
 
 or_and : (a b c : Bool) → ((a && c) || (b && c)) ≡ ((a || b) && c)
 or_and true true true = refl
@@ -49,7 +49,7 @@ in_turn tree own (p ∷ ps) d =
     ∙ (λ i. in_kept (λ q. not (is_in own q)) (build_at tree p) d i || in_turn tree own ps d i)
     ∙ or_and (is_in (build_at tree p) d) (is_needed tree ps d) (not (is_in own d))
 
--- what is sorted and has each once of what these need in turn
+-- the build dependencies of these packages one after another, sorted and without duplicates
 pub needed_is : (tree : Tree) (ps found sorted : List ℕ) → IsTree tree → ((p : ℕ) → Contains ps p → p < length tree) → found ≡ needs_in_turn tree ps ps
     → IsPermutation found sorted → IsSorted nat_cmp sorted → dedup nat_eq sorted ≡ needed_by tree ps
 needed_is tree ps found sorted is listed e moved up =
@@ -69,7 +69,7 @@ needed_is tree ps found sorted is listed e moved up =
           Contains-dedup_nat sorted d (Contains-permutation found sorted d moved there),
     ))
 
--- one package more
+-- one more package
 turn_push : (tree : Tree) (own ps : List ℕ) (p : ℕ) → needs_in_turn tree own (ps ++ p ∷ []) ≡ needs_in_turn tree own ps ++ filter (λ d. not (is_in own d)) (build_at tree p)
 turn_push tree own [] p = append-nil (filter (λ d. not (is_in own d)) (build_at tree p))
 turn_push tree own (q ∷ ps) p =
@@ -107,12 +107,12 @@ found_own xs x r up found = by r (searched xs x r found (rises_weakly xs up))
           | inr ge ↦ let more = h.2 member.0 ge member.1 in omega (arith, here, more)
         ])))
 
--- ---- a unit as it is kept
+-- ---- a unit as stored
 
 abbrev pub kept : Tree → List ℕ → List ℕ → Unit
 kept tree packages build = record { name = name_of tree packages; packages = packages; build = build_kept tree packages build }
 
--- of a package that is alone
+-- for a single package
 pub alone_kept : (tree : Tree) (ps build : List ℕ) → IsTree tree → AreAlike tree ps → length ps ≡ 1 → kept tree ps build ≡ unit_from tree ps
 alone_kept tree [] build is alike one = absurd (omega arith)
 alone_kept tree (p ∷ []) build is alike one =
@@ -120,7 +120,7 @@ alone_kept tree (p ∷ []) build is alike one =
     λ i. record { name = path_at tree p; packages = order i; build = build_at tree p }
 alone_kept tree (p ∷ q ∷ ps) build is alike one = absurd (omega arith)
 
--- of several
+-- for several packages
 pub several_kept : (tree : Tree) (ps : List ℕ) → IsTree tree → AreAlike tree ps → length ps ≢ 1 → kept tree (in_order_of_path tree ps) (needed_by tree ps) ≡ unit_from tree ps
 several_kept tree [] is alike more = absurd (let some = alike.some in omega arith)
 several_kept tree (p ∷ []) is alike more = absurd (more refl)
@@ -135,7 +135,7 @@ several_kept tree (p ∷ q ∷ ps) is alike more =
     let build : build_kept tree (in_order_of_path tree all) (needed_by tree all) ≡ needed_by tree all = ap (λ xs. build_kept tree xs (needed_by tree all)) two.3 in
     λ i. record { name = name i; packages = in_order_of_path tree all; build = build i }
 
--- ---- appending others
+-- ---- appending dependencies outside the unit
 
 pub add_other : (own ps first before after : List ℕ) (k : ℕ) → k < length ps → before ≡ first ++ filter (λ d. not (is_in own d)) (take k ps)
     → not (is_in own (get_or ps k 0)) ≡ true → after ≡ before ++ get_or ps k 0 ∷ [] → after ≡ first ++ filter (λ d. not (is_in own d)) (take (k + 1) ps)
@@ -153,7 +153,7 @@ skip_own own ps first before after k lt was mine is =
     ∙ ap (λ b. first ++ (filter test (take k ps) ++ cond b (get_or ps k 0 ∷ []) [])) (sym mine)
     ∙ ap (λ xs. first ++ xs) (sym (filter_more test ps k 0 lt))
 
--- ---- one unit more
+-- ---- one more unit
 
 pub unit_more : {Z : Type 0} (tree : Tree) (ms after : List Made) (vs : List (Vec ℕ Z)) (v : Vec ℕ Z) (m : Made)
     → unit_made tree m ≡ unit_from tree v.items → map (unit_made tree) ms ≡ map (unit_from tree) (lists_of vs) → after ≡ ms ++ m ∷ []

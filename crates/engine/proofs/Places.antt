@@ -1,4 +1,4 @@
--- Where paths stand in a tree.
+-- Indexes of paths in a tree.
 use Rattle.std.proofs.Common.{◌≡◌, ◌<◌, ℕ, Bool, true, false, cond, nat_lt, List, length, position, get_or, Option, None, Some, refl, sym, ap, subst, ◌∙◌, arith}
 use Rattle.std.specs.Prelude.{All}
 use Rattle.std.specs.List.{position_or_len}
@@ -10,7 +10,7 @@ use Rattle.std.proofs.lemmas.List.Sums.{fails_before_first, position_or_len_is}
 use Rattle.faults.specs.Bytes.{Text}
 use Rattle.listing.specs.Tree.{IsTree, Package, Tree, no_package, path_at, position_of}
 
--- ---- the first place where a test passes
+-- ---- the first index at which a test passes
 
 past_by : (b : Bool) (n : ℕ) → cond b (Some n) None ≡ None → b ≡ false
 past_by true n e = cc
@@ -20,19 +20,19 @@ within_by : (b : Bool) (n i : ℕ) → cond b (Some n) None ≡ Some i → (b �
 within_by true n i e = (refl, cc)
 within_by false n i e = cc
 
--- the place is one of the list
+-- the index is in range
 pub within_place : {X : Type 0} (test : X → Bool) (xs : List X) (i : ℕ) → position test xs ≡ Some i → i < length xs
 within_place test xs i e =
     let parts = within_by (nat_lt (position_or_len test xs) (length xs)) (position_or_len test xs) i e in
     omega (arith, ltb-true _ _ parts.0, parts.1)
 
--- where there is no such place, nothing passes
+-- if there is no such index, nothing passes
 pub nowhere : {X : Type 0} (test : X → Bool) (xs : List X) → position test xs ≡ None → All (λ x. test x ≡ false) xs
 nowhere test xs e k d l =
     let past = ltb-false _ _ (past_by (nat_lt (position_or_len test xs) (length xs)) (position_or_len test xs) e) in
     fails_before_first test xs k d (omega arith)
 
--- where something passes, there is such a place
+-- if something passes, there is such an index
 pub somewhere : {X : Type 0} (test : X → Bool) (xs : List X) (k : ℕ) (d : X) → k < length xs → test (get_or xs k d) ≡ true
     → (i : ℕ) × (position test xs ≡ Some i)
 somewhere test xs k d l e = by_place (position test xs) refl
@@ -41,7 +41,7 @@ somewhere test xs k d l e = by_place (position test xs) refl
     by_place None none = absurd (true≢false (sym e ∙ nowhere test xs none k d l))
     by_place (Some i) some = (i, some)
 
--- it is the place before which nothing passes
+-- it is the index before which nothing passes
 pub first_place : {X : Type 0} (test : X → Bool) (xs : List X) (i : ℕ) (d : X) → i < length xs → ((k : ℕ) → k < i → test (get_or xs k d) ≡ false)
     → test (get_or xs i d) ≡ true → position test xs ≡ Some i
 first_place test xs i d l before here =
@@ -59,7 +59,7 @@ equal_bytes s t e = subst (λ u. bytes_eq s u ≡ true) e (nat_list_eq_equiv.ref
 
 -- ---- positions of paths
 
--- what stands at the position of a path
+-- the package at the position of a path has that path
 pub listed_at : (tree : Tree) (path : Text) (p : ℕ) → position_of tree path ≡ Some p → (p < length tree) × (path_at tree p ≡ path)
 listed_at tree path p e =
     let here = position-Some (λ (x : Package). bytes_eq x.path path) tree p no_package e in

@@ -1,4 +1,4 @@
--- What the parts of an engine tell of its state.
+-- An engine's state, read from its parts.
 use Rattle.std.proofs.Common.{◌≡◌, ◌≢◌, ◌+◌, ◌<◌, ◌≤◌, ℕ, suc, Bool, true, false, not, cond, List, [], ◌∷◌, Option, MatchOption, Some, None, All, Contains, get_or, length, refl, sym, ap, ◌∙◌, subst, inl, inr, arith}
 use Rattle.std.proofs.Math.ListN.{get_or-map}
 use Rattle.std.proofs.lemmas.Bool.{cases_lt, true≢false}
@@ -34,7 +34,7 @@ held_mark letters p = get_or-map is_held letters p Ignored
 pub agreed_is_held : (tree : Tree) (letters : List Letter) (p : ℕ) → has_agreed (state_of tree letters) p ≡ holds letters p
 agreed_is_held tree letters p = contains-marked_set (held_marks letters) p ∙ held_mark letters p
 
--- a letter other than that of ignored packages stands within the list
+-- a position with another letter than Ignored is in range
 pub letter_within : (letters : List Letter) (p : ℕ) → letter_at letters p ≢ Ignored → p < length letters
 letter_within letters p other = elim (cases_lt p (length letters)) [
   | inl within ↦ within
@@ -48,7 +48,7 @@ installed_is B e = absurd (true≢false (sym e))
 installed_is I e = refl
 installed_is Ignored e = absurd (true≢false (sym e))
 
--- where none is waited for, all are installed
+-- if none is waited for, all are installable
 pub none_waited : (letters : List Letter) (ps : List ℕ) (q : ℕ) → waited_for letters ps ≡ 0 → Contains ps q → letter_at letters q ≡ I
 none_waited letters ps q none (k, within, is) = installed_is (letter_at letters q) (go (is_installed (letter_at letters q)) refl)
   where
@@ -60,7 +60,7 @@ none_waited letters ps q none (k, within, is) = installed_is (letter_at letters 
         let one : test (get_or ps k q) ≡ 1 = ap test is ∙ ap (λ b. cond (not b) 1 0) e in
         absurd (omega (arith, at, one, none))
 
--- where some are waited for, one is not installed
+-- if some are waited for, one is not installable
 some_waited : (letters : List Letter) (ps : List ℕ) → 0 < waited_for letters ps → (q : ℕ) × Contains ps q × (is_installed (letter_at letters q) ≡ false)
 some_waited letters [] some = absurd (omega arith)
 some_waited letters (p ∷ ps) some = go (is_installed (letter_at letters p)) refl (λ rest. some_waited letters ps rest)
@@ -137,7 +137,7 @@ module _ {d : Division} {letters : List Letter} {lacks waiting : List ℕ} {runs
   pub has_letter : (p : ℕ) → p < length d.tree → HasLetter (state_of d.tree letters) p (letter_at letters p)
   has_letter p within = has_letter_of p within (letter_at letters p) refl (kept.queueing.are_fitting.fit p within)
 
-  -- a package that does not have the letter of ignored ones is kept with another
+  -- a package whose letter isn't Ignored is stored with another letter
   pub other_than_ignored : (p : ℕ) → p < length d.tree → ¬ HasLetter (state_of d.tree letters) p Ignored → letter_at letters p ≢ Ignored
   other_than_ignored p within other is = other (subst (HasLetter (state_of d.tree letters) p) is (has_letter p within))
 
@@ -190,7 +190,7 @@ module _ {d : Division} {letters : List Letter} {lacks waiting : List ℕ} {runs
         letter_within letters p (λ e. true≢false (sym (sym (agreed_is_held d.tree letters p) ∙ agreed) ∙ ap is_held e)),
       )
 
--- the least of all is the least from the first position on
+-- the lowest of all is the lowest from position 0 on
 pub next_queued : (s : State) (o : Option ℕ) → IsQueuedFrom s 0 o → IsNextQueued s o
 next_queued s None none = λ p within. none p (omega arith) within
 next_queued s (Some p) (behind, within, queued, before) = (within, queued, λ k earlier. before k (omega arith) earlier)

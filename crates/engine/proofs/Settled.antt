@@ -1,4 +1,4 @@
--- What holds when those that become installable with one more package are known.
+-- The invariant once the packages are known that become installable with one more.
 use Rattle.std.proofs.Common.{◌≡◌, ◌≢◌, ◌+◌, ◌<◌, ◌≤◌, ◌⊎◌, ◌^◌, ℕ, suc, Bool, true, false, not, cond, List, [], ◌∷◌, All, Contains, get_or, length, set, sum_by, refl, sym, ap, ◌∙◌, inl, inr, arith}
 use Rattle.std.proofs.lemmas.Bool.{both_ways, cases_Bool, cases_eq, cases_lt, true≢false}
 use Rattle.std.proofs.lemmas.List.{get_or-set_other, get_or-set_same}
@@ -40,7 +40,7 @@ installed_or_not B = inr refl
 installed_or_not I = inl refl
 installed_or_not Ignored = inr refl
 
--- where one sum is greater, one of its parts is
+-- if one sum is greater, so is one of its terms
 some_more : (f g : ℕ → ℕ) (ps : List ℕ) → sum_by f ps < sum_by g ps → (x : ℕ) × Contains ps x × (f x < g x)
 some_more f g [] less = absurd (omega (arith, less))
 some_more f g (p ∷ ps) less = elim (cases_lt (f p) (g p)) [
@@ -50,7 +50,7 @@ some_more f g (p ∷ ps) less = elim (cases_lt (f p) (g p)) [
       (rest.0, (suc rest.1.0, omega (arith, rest.1.1), rest.1.2), rest.2)
 ]
 
--- where parts go together, so do the sums
+-- if terms add up, so do the sums
 summed : (f g h k : ℕ → ℕ) (ps : List ℕ) → ((x : ℕ) → f x + g x ≡ h x + k x) → sum_by f ps + sum_by g ps ≡ sum_by h ps + sum_by k ps
 summed f g h k [] each = refl
 summed f g h k (p ∷ ps) each = omega (arith, each p, summed f g h k ps each, sum_by-cons f p ps, sum_by-cons g p ps, sum_by-cons h p ps, sum_by-cons k p ps)
@@ -107,7 +107,8 @@ module _ {d : Division} {letters : List Letter} {lacks waits : List ℕ} {runs n
     kept.few q (omega (arith, listed, kept.each)),
   )
 
-  -- each package lacks as many as the lists of built ones have it, or more
+  -- each package lacks at least as many as the number of times that the lists of built ones contain
+  -- it
   pub some_told : (q : ℕ) (xs : List ℕ) → q < length d.tree → ((x : ℕ) → times x xs ≤ 1) → ((x : ℕ) → Contains xs x → letter_at with_built x ≡ B)
       → told runs q xs ≤ get_or lacks q 0
   some_told q xs listed once built = omega (
@@ -236,7 +237,7 @@ module _ {d : Division} {letters : List Letter} {lacks waits : List ℕ} {runs n
           omega (arith, lacks_less q listed, kept.installed q before, counted-le settled.dropped found (run_at d.tree q) dropped_fewer)
     ]
 
-    -- ---- no more are installable
+    -- ---- no others are installable
     module _ (q : ℕ) (i : IsInstallable d.tree (holds now) q) where
       unmarked_other : (x : ℕ) → has_mark settled.marks x ≡ false → x ≢ p
       unmarked_other x unmarked same = both_ways (has_mark settled.marks x) unmarked (ap (has_mark settled.marks) same ∙ settled.gathered.itself)

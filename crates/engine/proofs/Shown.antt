@@ -1,4 +1,4 @@
--- The counts of letters, where one letter is put in place of another.
+-- The counts of letters after one letter is replaced.
 use Rattle.std.proofs.Common.{◌≡◌, ◌+◌, ◌<◌, ◌==◌, ℕ, List, get_or, length, set, cond, refl, sym, ap, ◌∙◌, arith}
 use Rattle.std.proofs.lemmas.List.Sums.{sum_by-set}
 use Rattle.engine.specs.State.{count_of, counts_of, index_of}

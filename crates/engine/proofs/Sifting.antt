@@ -1,4 +1,4 @@
--- How those that lack more than found ones are dropped, with those that need them.
+-- How packages that lack more than found ones are dropped, with those that need them.
 use Rattle.std.proofs.Common.{◌≡◌, ◌+◌, ◌<◌, ◌≤◌, ◌^◌, ℕ, zero, suc, Bool, true, false, List, [], ◌∷◌, All, Contains, get_or, length, take, refl, sym, ap, ◌∙◌, subst, inl, inr, arith}
 use Rattle.std.proofs.lemmas.Bool.{both_ways, cases_lt}
 use Rattle.std.proofs.lemmas.List.{get_or_append_left, length-append, take-append-le}
@@ -21,11 +21,11 @@ pub one_if-most : (b : Bool) → one_if b ≤ 1
 one_if-most true = omega arith
 one_if-most false = omega arith
 
--- a fact of each that stands in the list is one of all
+-- what holds of each element holds of all
 pub All-from_contains : (P : ℕ → Type 0) (xs : List ℕ) → ((x : ℕ) → Contains xs x → P x) → All P xs
 All-from_contains P xs each k d inside = each (get_or xs k d) (Contains-get_or xs k d inside)
 
--- what holds when the lists of the first n dropped ones have been followed
+-- the invariant after the lists of the first n dropped ones were followed
 pub record IsSifting (runs : List (List ℕ)) (marks_before : List Bool) (dropped_before lacks_before : List ℕ) (marks : List Bool) (dropped lacks : List ℕ) (n : ℕ) : Type 0 where
   pub parted : AreParted marks_before marks dropped_before dropped
   pub each : length marks ≡ length marks_before
@@ -57,7 +57,7 @@ IsSifting-start runs marks dropped lacks within rest some = record {
 module _ {runs : List (List ℕ)} {marks_before : List Bool} {dropped_before lacks_before : List ℕ} {marks : List Bool} {dropped lacks : List ℕ} {n : ℕ}
     (before : IsSifting runs marks_before dropped_before lacks_before marks dropped lacks n)
     (each_run : length marks_before ≡ length runs) (each_lack : length lacks_before ≡ length runs) where
-  -- the next sums fit
+  -- the next sums don't overflow
   pub next_fits : n < length dropped
       → ((p : ℕ) (xs : List ℕ) → p < length lacks_before → ((q : ℕ) → times q xs ≤ one_if (has_mark marks_before q) + times q dropped_before)
       → get_or lacks_before p 0 + told runs p xs < 2 ^ 64)
@@ -130,7 +130,7 @@ module _ {runs : List (List ℕ)} {marks_before : List Bool} {dropped_before lac
       take_whole zero (x ∷ xs) all = absurd (omega (arith, all))
       take_whole (suc k) (x ∷ xs) all = ap (λ ys. x ∷ ys) (take_whole k xs (omega (arith, all)))
 
--- ---- all in all
+-- ---- the whole search
 
 pub found_within : (runs : List (List ℕ)) (found : List ℕ) (marks : List Bool) → AreFound marks found → length marks ≡ length runs → All (λ p. p < length runs) found
 found_within runs found marks are_found each =
@@ -153,7 +153,7 @@ module _ (runs : List (List ℕ)) (found : List ℕ) (marks first_left : List Bo
   inside_runs : All (λ p. p < length runs) found
   inside_runs = found_within runs found marks are_found each
 
-  -- sums of what found ones tell fit
+  -- sums over the lists of found ones don't overflow
   pub sums_fit : (next : ℕ → List ℕ) → AreReversed (length runs) (length runs) next runs → ((p : ℕ) → p < length before → get_or before p 0 < 2 ^ 64)
       → (p : ℕ) (xs : List ℕ) → p < length mid → ((q : ℕ) → times q xs ≤ one_if (has_mark first_left q) + times q first)
       → get_or mid p 0 + told runs p xs < 2 ^ 64

@@ -1,4 +1,4 @@
--- How many positions meet a condition.
+-- The number of positions that meet a condition.
 use Rattle.std.proofs.Common.{◌≡◌, ◌≢◌, ◌<◌, ◌≤◌, ℕ, zero, suc, sym, subst, inl, inr, arith}
 use Rattle.std.proofs.lemmas.Bool.{cases_eq}
 use Rattle.engine.specs.inside.Lacking.{AreSoMany}
@@ -8,7 +8,7 @@ so_many-few P zero m are = omega arith
 so_many-few P (suc n) m (inl (here, (k, are, is))) = omega (arith, so_many-few P n k are)
 so_many-few P (suc n) m (inr (not_here, are)) = omega (arith, so_many-few P n m are)
 
--- one that meets it is counted
+-- a position that meets the condition is counted
 pub so_many-some : (P : ℕ → Type 0) (n m q : ℕ) → AreSoMany P n m → q < n → P q → 0 < m
 so_many-some P zero m q are below meets = absurd (omega arith)
 so_many-some P (suc n) m q (inl (here, (k, are, is))) below meets = omega arith
@@ -29,7 +29,7 @@ so_many-same P Q (suc n) m there back (inl (here, (k, are, is))) =
 so_many-same P Q (suc n) m there back (inr (not_here, are)) =
     inr (λ h. not_here (back n (omega arith) h), so_many-same P Q n m (λ q below. there q (omega arith)) (λ q below. back q (omega arith)) are)
 
--- where one no longer meets it, they are one less
+-- if one no longer meets it, the number is one less
 pub so_many-less : (P Q : ℕ → Type 0) (n m p : ℕ) → p < n → P p → ¬ Q p → ((q : ℕ) → q < n → q ≢ p → P q → Q q) → ((q : ℕ) → q < n → Q q → P q)
     → AreSoMany P n (suc m) → AreSoMany Q n m
 so_many-less P Q zero m p within met no_more there back are = absurd (omega arith)

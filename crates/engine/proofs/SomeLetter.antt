@@ -14,7 +14,7 @@ use Rattle.engine.proofs.Decided.{all_or_any, installable_or_not}
 
 module _ (tree : Tree) (units : List Unit) (are : AreUnits tree units) (held : ℕ → Bool)
     (p : ℕ) where
-  -- all that the build of the package's unit needs is installable, or something is not
+  -- everything that the build of the package's unit needs is installable, or something is not
   buildable_or_not : (u : Unit) → IsUnitOf tree p u → CanBeBuilt tree held p
       ⊎ ¬ CanBeBuilt tree held p
   buildable_or_not u of_unit = elim (all_or_any (IsInstallable tree held)
@@ -27,7 +27,7 @@ module _ (tree : Tree) (units : List Unit) (are : AreUnits tree units) (held : �
             (k, inside, is)))
       ]
 
-  -- where it is neither held nor ignored
+  -- a package that is neither held nor ignored
   waits_or_queued : held p ≡ false → are.ignored p ≡ false
       → (letter : Letter) × IsLetter tree held p letter
   waits_or_queued not_held not_ignored = elim (cases_lt p (length tree)) [

@@ -1,4 +1,4 @@
--- How often lists have a position, told of many of them.
+-- How many times lists contain a position, summed over many lists.
 use Rattle.std.proofs.Common.{◌≡◌, ◌+◌, ◌<◌, ◌≤◌, ℕ, List, [], ◌∷◌, All, cond, nat_eq, sum_by, take, length, get_or, refl, sym, ap, ◌∙◌, inl, inr, arith}
 use Rattle.std.proofs.lemmas.Bool.{cases_eq, eq-eqb, ne_eqb}
 use Rattle.std.proofs.lemmas.List.Elements.{All-head, All-tail}
@@ -15,7 +15,7 @@ either_way p q = elim (cases_eq p q) [
   | inr other ↦ ap one_if (ne_eqb p q other) ∙ sym (ap one_if (ne_eqb q p (λ e. other (sym e))))
 ]
 
--- how often each of these stands in the list, told of all of them
+-- how many times the list contains each of these, summed up
 abbrev pub counted : List ℕ → List ℕ → ℕ
 counted xs ps = sum_by (λ q. times q xs) ps
 
@@ -39,7 +39,7 @@ pub counted-le : (xs ys ps : List ℕ) → ((q : ℕ) → times q xs ≤ times q
 counted-le xs ys ps fewer = sum_by-le-sum_by (λ q. times q xs) (λ q. times q ys) ps fewer
 
 module _ {n m : ℕ} {next : ℕ → List ℕ} {lists : List (List ℕ)} (are : AreReversed n m next lists) where
-  -- the lists have the position as often as its own list has them
+  -- the lists contain the position as many times as its own list contains their positions
   pub told-counted : (p : ℕ) → p < m → (xs : List ℕ) → All (λ x. x < n) xs → told lists p xs ≡ counted xs (next p)
   told-counted p within [] inside = sym (counted-nil (next p))
   told-counted p within (x ∷ xs) inside = omega (

@@ -12,7 +12,7 @@ abbrev pub none : ℕ → Bool
 none p = false
 
 module _ (tree : Tree) (unmarked : (q : ℕ) → is_marked_at tree q ≡ true → ⊥) where
-  -- where nothing is marked, nothing is ignored: the empty set holds the marked ones
+  -- if nothing is marked, nothing is ignored: the empty set contains the marked packages
   pub free : (p : ℕ) → ¬ IsIgnored tree p
   free p ignored = true≢false (sym (ignored none (record { marked = λ q _ h. absurd (unmarked q h); build = λ q d _ _ h. h; run = λ q d _ _ h. h })))
 
@@ -33,7 +33,7 @@ module _ (tree : Tree) (unmarked : (q : ℕ) → is_marked_at tree q ≡ true �
     installable = λ k d h. absurd (omega (arith, h, ap length nothing));
   }
 
-  -- and one whose unit needs another can't, where that is not installable
+  -- a package whose unit needs another that is not installable can't be built
   pub lacks_one : (held : ℕ → Bool) (p d : ℕ) → p < length tree → (unit_with tree none p).build ≡ d ∷ [] → (IsInstallable tree held d → ⊥) → ¬ CanBeBuilt tree held p
   lacks_one held p d within needs lacking can =
       let build : can.unit.build ≡ d ∷ [] = ap (λ (u : Unit). u.build) (one_unit tree p can.unit (unit_with tree none p) can.of_unit (unit_there p within)) ∙ needs in

@@ -1,4 +1,4 @@
--- What changes where a package becomes installable.
+-- The effects when a package becomes installable.
 use Rattle.std.proofs.Common.{◌≡◌, ◌≢◌, ◌+◌, ◌-◌, ◌<◌, ◌≤◌, ◌⊎◌, ℕ, zero, suc, Bool, not, cond, nat_eq, List, [], ◌∷◌, Some, All, Contains, count_by, drop, get_or, length, set, refl, sym, ap, ◌∙◌, subst, inl, inr, arith}
 use borrow.Author.Count.{below_more}
 use Rattle.std.proofs.lemmas.Bool.{cases_eq, eq-eqb, ne_eqb}
@@ -36,7 +36,7 @@ queued-installed a b queued p = elim (queued.same p) [
   | inr (t, q) ↦ ap is_installed q ∙ sym (ap is_installed t)
 ]
 
--- ---- how many are waited for
+-- ---- the number that is waited for
 
 pub waited_for-same : (a b : List Letter) (ps : List ℕ) → ((p : ℕ) → is_installed (letter_at b p) ≡ is_installed (letter_at a p)) → waited_for b ps ≡ waited_for a ps
 waited_for-same a b ps same =
@@ -89,7 +89,7 @@ module _ {d : Division} {letters : List Letter} {waits : List ℕ} (are : AreFit
     here : (w : ℕ) → w ≡ u → get_or (set waits u v) w 0 ≡ v
     here w same = ap (λ x. get_or (set waits u v) x 0) same ∙ get_or-set_same waits u v 0 listed
 
-    -- the unit waits for more
+    -- the unit still waits
     fits_waiting : 0 < v → (p : ℕ) (l : Letter) → FitsUnit d waits p l → FitsUnit d (set waits u v) p l
     fits_waiting more p T (w, is, some) = elim (cases_eq w u) [
       | inl same ↦ (w, is, omega (arith, more, here w same))
@@ -161,9 +161,9 @@ module _ {d : Division} {letters : List Letter} {waits : List ℕ} (are : AreFit
         fit = λ p inside. fits_queued p (letter_at letters p) refl (are.fit p inside);
       }
 
--- ---- a package is installable
+-- ---- a package becomes installable
 
--- what holds when the units of the first n that need it wait for one less
+-- the invariant after the units of the first n that need it wait for one less
 pub record IsInstalling (d : Division) (before letters : List Letter) (waits needing : List ℕ) (n : ℕ) : Type 0 where
   pub fitting : AreFitting d letters waits
   pub waited : (u : ℕ) → u < length d.units → get_or waits u 0 ≡ waited_for letters (needs_of d u) + times u (drop n needing)
@@ -215,9 +215,9 @@ module _ {d : Division} {before letters : List Letter} {waits needing : List ℕ
       drop-past (x ∷ xs) zero past = absurd (omega arith)
       drop-past (x ∷ xs) (suc k) past = drop-past xs k (omega arith)
 
--- ---- those that lack nothing are installable
+-- ---- packages that lack nothing become installable
 
--- the letter of one that becomes installable, and those of others
+-- the letter of the package that becomes installable, and those of others
 pub letter_after : (letters now : List Letter) (p : ℕ) → p < length letters → letter_at letters p ≡ B → AreQueued (set letters p I) now → (q : ℕ)
     → ((q ≡ p) × (letter_at now q ≡ I) × (letter_at letters q ≡ B)) ⊎ ((q ≢ p) × ((letter_at now q ≡ letter_at letters q) ⊎ ((letter_at letters q ≡ T) × (letter_at now q ≡ Q))))
 letter_after letters now p within built queued q = elim (cases_eq q p) [
@@ -235,7 +235,7 @@ letter_after letters now p within built queued q = elim (cases_eq q p) [
       ]
 ]
 
--- what holds when n of the found ones have been looked at
+-- the invariant after n of the found ones were examined
 pub record IsInstallingAll (d : Division) (before letters : List Letter) (waits lacks found : List ℕ) (n : ℕ) : Type 0 where
   pub queueing : AreQueueing d letters waits
   pub each : length letters ≡ length before

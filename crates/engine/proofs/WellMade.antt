@@ -1,4 +1,4 @@
--- What each unit is, and which package has which.
+-- The properties of each unit, and which package has which unit.
 use Rattle.std.proofs.Common.{◌≡◌, ◌≢◌, ◌<◌, ◌↔◌, ◌⊎◌, ◌&&◌, not, inl, inr, ℕ, Bool, false, List, [], ◌∷◌, Option, None, Some, length, map, get_or, filter, position, ⊎_elim, refl, sym, ap, subst, ◌∙◌, arith}
 use Rattle.std.specs.Prelude.{Any, Contains, option_and_then}
 use Rattle.std.specs.List.{range_with_len}
@@ -16,8 +16,8 @@ use Rattle.faults.proofs.Ascending.{same_ascending, same_members}
 use Rattle.faults.proofs.Members.{contains_first, member_cases, no_members}
 use Rattle.faults.proofs.Sets.{from_set, into_set, set_rises}
 use Rattle.listing.specs.Tree.{ArePositions, AreSingle, IsTree, Tree, build_at, group_at, no_package, path_at, position_of, run_at}
-use Rattle.pkgpath.proofs.Without.{without-is_path}
-use Rattle.pkgpath.specs.PkgPath.{IsPath, without_subpackage}
+use Rattle.listing.proofs.Without.{without-is_path}
+use Rattle.listing.specs.PkgPath.{IsPath, without_subpackage}
 use Rattle.engine.proofs.Division.{group_place, leasts, made_alike, made_contains, made_listed, number_here, number_some, same_unit, unit_number, units_are}
 use Rattle.engine.proofs.InOrder.{from_order, into_order, order_alone, order_paths, two_members}
 use Rattle.engine.proofs.Lists.{and_true, any_of, any_some, below_in, contains_in, filter_same, in_at, in_below, in_contains, in_kept, map_same, not_true, range_increasing}
@@ -77,7 +77,7 @@ one_unit_has d k p is lt member =
       },
     )
 
--- a unit that has the name of a package's path is the package's
+-- a unit whose name is a package's path is the package's unit
 named_path : (d : Division) (j k p : ℕ) → IsDivision d → k < length d.units → Contains (unit_at d k).packages p → number_named d (path_at d.tree p) ≡ Some j → j ≡ k
 named_path d j k p is lt member found =
     let S = is.units.ignored in
@@ -108,7 +108,7 @@ path_is_found d k p is lt member = by (number_named d (path_at d.tree p)) refl
         ap (option_and_then (number_of d)) (has_position d.tree (path_at d.tree p) p is.tree one.1.listed refl) ∙ one.0
     by (Some j) e = ap (λ i. Some i) (named_path d j k p is lt member e)
 
--- ---- what each unit is
+-- ---- the properties of each unit
 
 set_once : (ts : List Text) → set_of ts ≡ set_of (set_of ts)
 set_once ts =
@@ -130,7 +130,7 @@ module _ (tree : Tree) (is : IsTree tree) where
   name_good (p ∷ []) alike = path_good p (alike.listed p (contains_first p []))
   name_good (p ∷ q ∷ ps) alike = group_good p (alike.listed p (contains_first p (q ∷ ps)))
 
-  -- two packages of one group have it as their path without subpackage
+  -- if two packages are in one group, the group is their path without subpackage
   group_shared : (p q : ℕ) → p < length tree → q < length tree → p ≢ q → group_at tree p ≡ group_at tree q → group_at tree p ≡ without_subpackage (path_at tree p)
   group_shared p q ltp ltq apart same = ⊎_elim
       (λ grouped. All-get_or (λ x. x.group ≡ without_subpackage x.path) tree p no_package ltp grouped)

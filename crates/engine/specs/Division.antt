@@ -7,17 +7,17 @@ use Rattle.faults.specs.Bytes.{Text}
 use Rattle.listing.specs.Tree.{IsTree, Tree, position_of}
 use Rattle.engine.specs.Units.{AreUnits, Unit, is_in}
 
--- the tree, and its units in order of their least positions
+-- a tree, and its units in the order of their lowest positions
 pub record Division : Type 0 where
   pub tree : Tree
   pub units : List Unit
 
--- the units are those of the tree
+-- The units are those of the tree.
 pub record IsDivision (d : Division) : Type 0 where
   pub tree : IsTree d.tree
   pub units : AreUnits d.tree d.units
 
--- read only where a unit's number is past the end
+-- read only if a unit's number is out of range
 abbrev pub no_unit : Unit
 no_unit = record { name = []; packages = []; build = [] }
 
@@ -33,7 +33,7 @@ number_of d p = position (λ u. is_in u.packages p) d.units
 abbrev pub number_named : Division → Text → Option ℕ
 number_named d name = position (λ u. bytes_eq u.name name) d.units
 
--- the number of the unit that a path names: by the unit's name, and else by the path of one of its
+-- the number of the unit that a path names: by the unit's name, or else by the path of one of its
 -- packages
 abbrev pub number_found : Division → Text → Option ℕ
 number_found d path =

@@ -7,3 +7,5 @@ pub mod UnitLaws
 pub mod Units
 pub mod inside
 pub mod shared
+pub use Rattle.listing.specs.Digest
+pub use Rattle.listing.specs.Tree

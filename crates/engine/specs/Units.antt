@@ -1,4 +1,4 @@
--- Which packages one build makes. A set of positions stands as its test.
+-- Which packages one build makes. A set of positions is given by its characteristic function.
 use Rattle.std.specs.Prelude.{◌≡◌, ◌<◌, ℕ, Bool, false, ◌&&◌, ◌==◌, not, nat_le, List, [], ◌∷◌, filter, filter_map, length, map}
 use Rattle.std.specs.List.{list_all, list_any, range_with_len}
 use Rattle.std.specs.Str.{bytes_eq}
@@ -13,10 +13,10 @@ pub record Unit : Type 0 where
   pub name : Text
   -- the positions of its packages, in order of path
   pub packages : List ℕ
-  -- the positions of what its build needs: ascending, each once
+  -- the positions of what its build needs: ascending, without duplicates
   pub build : List ℕ
 
--- the position is one of these
+-- Whether the position is in the list.
 abbrev pub is_in : List ℕ → ℕ → Bool
 is_in ps p = list_any (λ q. q == p) ps
 
@@ -24,24 +24,24 @@ is_in ps p = list_any (λ q. q == p) ps
 abbrev pub positions : Tree → List ℕ
 positions tree = range_with_len 0 (length tree)
 
--- ---- one unit, of packages whose positions ascend
+-- ---- one unit, made of packages at ascending positions
 
 -- the positions in order of path
 abbrev pub in_order_of_path : Tree → List ℕ → List ℕ
 in_order_of_path tree ps = filter_map (position_of tree) (set_of (map (path_at tree) ps))
 
--- the path of a package that is alone, else the path that names the group
+-- the path of a single package, otherwise the path that names the group
 abbrev pub name_of : Tree → List ℕ → Text
 name_of tree [] = []
 name_of tree (p ∷ []) = path_at tree p
 name_of tree (p ∷ q ∷ ps) = group_at tree p
 
--- one of the packages needs the one at d to be built
+-- Whether one of the packages needs the one at d to be built.
 abbrev pub is_needed : Tree → List ℕ → ℕ → Bool
 is_needed tree ps d = list_any (λ p. is_in (build_at tree p) d) ps
 
--- what a package that is alone needs to be built; of two or more, what any of them needs and none
--- of them is
+-- the build dependencies of a single package; for several packages, those of any of them except the
+-- packages themselves
 abbrev pub build_of : Tree → List ℕ → List ℕ
 build_of tree [] = []
 build_of tree (p ∷ []) = build_at tree p
@@ -56,9 +56,9 @@ unit_from tree ps = record {
   build = build_of tree ps;
 }
 
--- ---- the units of a tree, of which these packages are ignored
+-- ---- the units of a tree, given the ignored packages
 
--- what is made with the package at p: all of its group that are not ignored
+-- the packages made together with the one at p: all of its group that are not ignored
 abbrev pub made_with : Tree → (ℕ → Bool) → ℕ → List ℕ
 made_with tree ignored p =
     filter (λ q. bytes_eq (group_at tree q) (group_at tree p) && not (ignored q)) (positions tree)
@@ -67,11 +67,11 @@ made_with tree ignored p =
 abbrev pub unit_with : Tree → (ℕ → Bool) → ℕ → Unit
 unit_with tree ignored p = unit_from tree (made_with tree ignored p)
 
--- the package is not ignored, and is the least of its unit
+-- Whether the package is not ignored and has the lowest position of its unit.
 abbrev pub is_least : Tree → (ℕ → Bool) → ℕ → Bool
 is_least tree ignored p = not (ignored p) && list_all (nat_le p) (made_with tree ignored p)
 
--- the units, in order of their least positions
+-- the units, in the order of their lowest positions
 abbrev pub units_with : Tree → (ℕ → Bool) → List Unit
 units_with tree ignored =
     map (unit_with tree ignored) (filter (is_least tree ignored) (positions tree))
@@ -86,7 +86,7 @@ pub record IsUnitOf (tree : Tree) (p : ℕ) (u : Unit) : Type 0 where
   pub not_ignored : ignored p ≡ false
   pub is : u ≡ unit_with tree ignored p
 
--- the units of the tree
+-- These are the units of the tree.
 pub record AreUnits (tree : Tree) (units : List Unit) : Type 0 where
   pub ignored : ℕ → Bool
   pub are_ignored : AreTheIgnored tree ignored

@@ -1,4 +1,4 @@
--- What only bodies and proofs need.
+-- Definitions that only function bodies and proofs need.
 pub mod Gathering
 pub mod Lacking
 pub mod Queueing

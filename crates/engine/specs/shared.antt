@@ -1,4 +1,4 @@
--- What bodies and proofs need, those of crates above, too.
+-- Definitions that function bodies and proofs need, also those of crates above.
 pub mod Agreed
 pub mod Keeping
 pub mod Marks

@@ -1,4 +1,4 @@
-//! How many packages have each letter.
+//! The number of packages with each letter.
 ghost use Rattle.std.specs.Prelude.{◌≡◌, ◌<◌, ◌^◌, ◌+◌};
 ghost use Rattle.engine.specs.shared.Shown.{same_letter, tally};
 ghost use Rattle.engine.specs.declared.Letter.{Letter as Kind};
@@ -6,7 +6,7 @@ ghost use Rattle.engine.specs.declared.Letter.{Letter as Kind};
 use crate::{Counts, Letter};
 
 impl Counts {
-    /// One more package with this letter.
+    /// Counts one more package with this letter.
     pub fn add(&mut self, letter: Letter)
         requires { tally self.old letter < 2 ^ 31 }
         ensures { (l : Kind) → tally self.new l ≡ tally self.old l + same_letter letter l }
@@ -20,7 +20,7 @@ impl Counts {
         }
     }
 
-    /// One package less with this letter.
+    /// Counts one package less with this letter.
     pub(crate) fn take(&mut self, letter: Letter)
         requires { 0 < tally self.old letter }
         ensures { (l : Kind) → tally self.new l + same_letter letter l ≡ tally self.old l }

@@ -1,4 +1,4 @@
-//! The engine, which contracts see as a tree and a set of positions.
+//! The engine. Contracts see it as a tree and a set of positions.
 ghost use Rattle.std.specs.Prelude.{◌≡◌, ◌<◌, length, IfOk};
 ghost use Rattle.std.specs.FinSet as set;
 ghost use Rattle.engine.specs.State.{AreCounts, HasLetter, IsEngine, IsNextQueued, IsQueuedFrom};
@@ -14,19 +14,19 @@ use listing::Tree;
 use std::alloc::Global;
 use std::marker::Model;
 
-/// Which packages of a tree are agreed, and what follows for the letters of all.
+/// Which packages of a tree are agreed, and the letters of all packages that follow from that.
 #[derive(Drop)]
 pub struct Engine<'a> {
     tree: &'a Tree,
     units: Units<'a>,
     letters: Letters,
-    /// For each package how many of those that its own lines need to run are not installable.
+    /// For each package, how many of its own run dependencies are not installable.
     lacks: Vec<usize>,
-    /// For each unit how many packages that its build needs are not installable.
+    /// For each unit, how many packages that its build needs are not installable.
     waits: Vec<usize>,
-    /// At each package those that need it to run.
+    /// For each package, the packages that need it to run.
     runs: Reversed,
-    /// At each package the units whose build needs it.
+    /// For each package, the units whose build needs it.
     needs: Reversed,
     search: Search,
 }
@@ -51,8 +51,8 @@ impl<'a> Model for Engine<'a> {
 }
 
 impl<'a> Engine<'a> {
-    /// The engine of a tree of which nothing is agreed. It makes all the room that its calls need,
-    /// so that they take no memory.
+    /// The engine of a tree of which nothing is agreed. This allocates everything; later calls do
+    /// not allocate.
     pub fn new(alloc: Global, tree: &'a Tree) -> Result<Engine<'a>, Memory>
         ensures { IfOk result
             (λ engine. engine ≡ record { tree = tree.entry.now; agreed = set.empty }) }
@@ -72,7 +72,7 @@ impl<'a> Engine<'a> {
         })
     }
 
-    /// Adds the package at the position, which is not ignored, to the agreed ones. A second time
+    /// Adds the package at the position, which is not ignored, to the agreed ones. Adding it again
     /// changes nothing.
     pub fn agree(&mut self, position: u32)
         requires listed { position < length self.old.tree }
@@ -84,7 +84,7 @@ impl<'a> Engine<'a> {
         }
         self.letters.set(position, Letter::B);
         let own = self.tree.run_deps(position);
-        // (else the search looks at all that need it, so that this costs no more)
+        // Otherwise the search looks at all that need it, so this costs no more.
         let most = self.runs.at(position).len();
         if !may_all_be_held(&self.letters, own, most) {
             return;
@@ -105,7 +105,7 @@ impl<'a> Engine<'a> {
         );
     }
 
-    /// The letter of the package at the position, where the agreed packages are held.
+    /// The letter of the package at the position, with the agreed packages held.
     pub fn letter(&self, position: u32) -> Letter
         requires { position < length self.now.tree }
         ensures letter { HasLetter self.now position result }
@@ -114,14 +114,14 @@ impl<'a> Engine<'a> {
         self.letters.at(position)
     }
 
-    /// The tree's units, by which builds are queued and ignored packages are told.
+    /// The tree's units. They decide which builds are queued and which packages are ignored.
     pub fn units(&self) -> &Units<'a>
         ensures { result.now.tree ≡ self.now.tree }
     {
         &self.units
     }
 
-    /// How many packages have each letter, where the agreed packages are held.
+    /// The number of packages with each letter, with the agreed packages held.
     pub fn counts(&self) -> Counts
         ensures counts { AreCounts self.now result }
         ensures engine { IsEngine self.now }
@@ -129,7 +129,7 @@ impl<'a> Engine<'a> {
         self.letters.counts()
     }
 
-    /// The least position with the letter Q, if a package has it.
+    /// The lowest position with the letter Q, if there is one.
     pub fn next_queued(&self) -> Option<u32>
         ensures queued { IsNextQueued self.now result }
         ensures engine { IsEngine self.now }
@@ -137,7 +137,7 @@ impl<'a> Engine<'a> {
         self.letters.queued_from(0)
     }
 
-    /// The least position at or behind this one with the letter Q, if a package has it.
+    /// The lowest position with the letter Q from this one on, if there is one.
     pub fn queued_from(&self, from: u32) -> Option<u32>
         ensures queued { IsQueuedFrom self.now from result }
         ensures engine { IsEngine self.now }

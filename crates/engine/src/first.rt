@@ -1,4 +1,4 @@
-//! What an engine keeps where nothing is held.
+//! The initial state of an engine, with nothing held.
 ghost use Rattle.std.specs.Prelude.{◌≡◌, ◌<◌, ◌^◌, ℕ, IfOk, OnOk, false, length, slice_index};
 ghost use Rattle.listing.specs.Tree.{run_at};
 ghost use Rattle.engine.specs.Division.{IsDivision};
@@ -15,8 +15,8 @@ use graph::Reversed;
 use listing::Tree;
 use std::alloc::Global;
 
-/// What an engine keeps beside the units where nothing is held: their waits and the letters, the
-/// turned lists of what builds and packages need, and the lacks with the room to search.
+/// The initial parts of an engine besides the units: the units' wait counts and the letters, the
+/// reversed lists of what builds and packages need, and the lack counts with the buffers to search.
 pub(crate) fn first_parts(
     alloc: Global,
     tree: &Tree,
@@ -41,7 +41,7 @@ pub(crate) fn first_parts(
     Ok((first, turned, counted))
 }
 
-/// For each package how many its own lines need to run, and the room to search.
+/// For each package the number of its run dependencies, and the buffers to search.
 fn lacks_and_search(alloc: Global, tree: &Tree) -> Result<(Vec<usize>, Search), Memory>
     ensures lacks { IfOk result (λ counted. (length counted.0.items ≡ length tree.now)
         × ((p : ℕ) → p < length tree.now
@@ -54,7 +54,7 @@ fn lacks_and_search(alloc: Global, tree: &Tree) -> Result<(Vec<usize>, Search), 
     Ok((lacks, search))
 }
 
-/// For each package how many its own lines need to run.
+/// For each package the number of its run dependencies.
 fn first_lacks(alloc: Global, tree: &Tree) -> Result<Vec<usize>, Memory>
     ensures { IfOk result (λ lacks. (length lacks.items ≡ length tree.now)
         × ((p : ℕ) → p < length tree.now
@@ -68,7 +68,7 @@ fn first_lacks(alloc: Global, tree: &Tree) -> Result<Vec<usize>, Memory>
     Ok(lacks)
 }
 
-/// For each unit how many packages its build needs, and the letters that follow where nothing is
+/// For each unit the number of its build dependencies, and the letters that follow if nothing is
 /// held.
 fn waits_and_letters(
     alloc: Global,
@@ -86,7 +86,7 @@ fn waits_and_letters(
     Ok((waits, letters))
 }
 
-/// For each unit how many packages its build needs.
+/// For each unit the number of its build dependencies.
 fn first_waits(alloc: Global, units: &Units<'_>) -> Result<Vec<usize>, Memory>
     ensures waits { IfOk result (λ waits. (length waits.items ≡ length units.now.units)
         × ((u : ℕ) → u < length units.now.units
@@ -100,7 +100,7 @@ fn first_waits(alloc: Global, units: &Units<'_>) -> Result<Vec<usize>, Memory>
     Ok(waits)
 }
 
-/// The letters where nothing is held: a unit that waits for nothing is queued.
+/// The letters if nothing is held: a unit that waits for nothing is queued.
 fn first_letters(
     alloc: Global,
     tree: &Tree,
@@ -120,7 +120,7 @@ fn first_letters(
     Ok(letters)
 }
 
-/// The letter of the package at the position where nothing is held.
+/// The letter of the package at the position if nothing is held.
 fn first_letter(units: &Units<'_>, waits: &[usize], position: u32) -> Letter
     requires listed { position < length units.now.tree }
     requires each { length waits.now ≡ length units.now.units }

@@ -8,12 +8,10 @@ ghost use Rattle.graph.specs.Marks.{has_mark};
 
 use faults::Memory;
 use indexmap::IndexSet;
-use listing::Tree;
-use pkgpath::PkgPath;
+use listing::{PkgPath, Tree};
 use std::alloc::Global;
 
-/// What is gathered of a tree's packages. Units have numbers, in the order of their least
-/// positions.
+/// The units of a tree while they are gathered, numbered in the order of their lowest positions.
 #[derive(Drop)]
 pub(crate) struct Gathered {
     /// The path that names the group of each unit.
@@ -24,8 +22,7 @@ pub(crate) struct Gathered {
     pub(crate) numbers: Vec<Option<u32>>,
 }
 
-/// Gathers the packages that are not ignored. For each position the mark says whether its package
-/// is.
+/// Gathers the packages that are not ignored; `ignored` marks the ignored ones, by position.
 pub(crate) fn gather(alloc: Global, tree: &Tree, ignored: &[bool]) -> Result<Gathered, Memory>
     requires { length ignored.now ≡ length tree.now }
     ensures gathered { IfOk result (AreGathered tree.now (has_mark ignored.now) (length tree.now)) }
@@ -47,7 +44,7 @@ pub(crate) fn gather(alloc: Global, tree: &Tree, ignored: &[bool]) -> Result<Gat
 }
 
 impl Gathered {
-    /// Takes in the package at the position, which is not ignored.
+    /// Gathers the package at the position, which is not ignored.
     fn take(&mut self, alloc: Global, tree: &Tree, position: u32) -> Result<(), Memory>
         requires listed { position < length tree.now }
         requires few { length self.old.groups.keys ≤ position }
@@ -75,8 +72,8 @@ fn number_of_group(groups: &mut IndexSet<PkgPath>, group: &PkgPath) -> Result<us
     Ok(number)
 }
 
-/// Puts the position behind those of the unit with this number. A new unit has the least number
-/// that is free.
+/// Appends the position to those of the unit with this number. A new unit has the lowest free
+/// number.
 fn put(
     alloc: Global,
     packages: &mut Vec<Vec<u32>>,

@@ -1,5 +1,5 @@
-//! The ignored packages: the marked ones, and all that depend on them, found along lists of who
-//! depends on whom, each package once.
+//! The ignored packages: the marked ones and all that depend on them. They are found by following
+//! lists of dependents, each package once.
 ghost use Rattle.std.specs.Prelude.{◌≡◌, ◌<◌, All, IfOk, length};
 ghost use Rattle.graph.specs.Lists.{AreReversed};
 ghost use Rattle.engine.specs.shared.Marks.{AreIgnored, AreMarksOf, deps_at, marked_of};
@@ -23,7 +23,7 @@ pub(crate) fn ignored_marks(alloc: Global, tree: &Tree) -> Result<Vec<bool>, Mem
     marks_of(alloc, tree.len(), walk.found())
 }
 
-/// The packages that the tree itself marks.
+/// The packages that are marked in the tree.
 fn marked_packages(alloc: Global, tree: &Tree) -> Result<Vec<u32>, Memory>
     ensures { IfOk result (λ marked. marked.items ≡ marked_of tree.now) }
 {
@@ -36,7 +36,7 @@ fn marked_packages(alloc: Global, tree: &Tree) -> Result<Vec<u32>, Memory>
     Ok(marked)
 }
 
-/// At each package those that depend on it.
+/// For each package, those that depend on it.
 fn dependents(alloc: Global, tree: &Tree) -> Result<Reversed, Memory>
     ensures { IfOk result (λ lists.
         AreReversed (length tree.now) (length tree.now) (deps_at tree.now) lists) }
@@ -49,7 +49,7 @@ fn dependents(alloc: Global, tree: &Tree) -> Result<Reversed, Memory>
     lists.turned(alloc)
 }
 
-/// So many marks, of which those at these positions are set.
+/// A list of `len` marks, of which those at these positions are set.
 pub fn marks_of(alloc: Global, len: u32, positions: &[u32]) -> Result<Vec<bool>, Memory>
     requires { All (λ p. p < len) positions.now }
     ensures { IfOk result (λ marks. AreMarksOf len positions.now marks.items) }

@@ -1,8 +1,8 @@
-//! Counts by position of what is lacking.
+//! Counts, by position, of what is lacking.
 ghost use Rattle.std.specs.Prelude.{◌≡◌, ◌<◌, ◌≤◌, ◌+◌, ◌^◌, ℕ, All, length, slice_index};
 ghost use Rattle.graph.specs.Lists.{times};
 
-/// Each of the positions lacks one less.
+/// Decrements the count of each of the positions.
 pub(crate) fn lower(lacks: &mut [usize], positions: &[u32])
     requires within { All (λ p. p < length lacks.old) positions.now }
     requires some { (p : ℕ) → p < length lacks.old
@@ -15,7 +15,7 @@ pub(crate) fn lower(lacks: &mut [usize], positions: &[u32])
     }
 }
 
-/// Each of the positions lacks one more.
+/// Increments the count of each of the positions.
 pub(crate) fn raise(lacks: &mut [usize], positions: &[u32])
     requires within { All (λ p. p < length lacks.old) positions.now }
     requires few { (p : ℕ) → p < length lacks.old

@@ -1,4 +1,4 @@
-//! The letters of all packages, which contracts see as a list by position.
+//! The letters of all packages. Contracts see them as a list by position.
 ghost use Rattle.std.specs.Prelude.{◌≡◌, ◌≢◌, ◌<◌, ◌≤◌, ◌^◌, ℕ, IfOk, MatchOption, length, replicate, set};
 ghost use Rattle.engine.specs.State.{counts_of};
 ghost use Rattle.engine.specs.shared.Shown.{is_held, letter_at};
@@ -10,7 +10,7 @@ use faults::Memory;
 use std::alloc::Global;
 use std::marker::Model;
 
-/// The letters of all packages, and how many there are of each.
+/// The letters of all packages, and the count of each letter.
 #[derive(Drop)]
 pub(crate) struct Letters {
     letters: Vec<Letter>,
@@ -35,7 +35,7 @@ impl Model for Letters {
 }
 
 impl Letters {
-    /// So many packages that are ignored.
+    /// The letters of `len` ignored packages.
     pub(crate) fn new(alloc: Global, len: u32) -> Result<Letters, Memory>
         requires { len < 2 ^ 31 }
         ensures { IfOk result (λ letters. letters ≡ replicate len Letter.Ignored) }
@@ -64,14 +64,14 @@ impl Letters {
         self.letters[position as usize]
     }
 
-    /// How many there are of each letter.
+    /// The count of each letter.
     pub(crate) fn counts(&self) -> Counts
         ensures { result ≡ counts_of self.now }
     {
         self.counts
     }
 
-    /// The least position at or behind this one with the letter Q, if a package has it.
+    /// The lowest position with the letter Q from this one on, if there is one.
     pub(crate) fn queued_from(&self, from: u32) -> Option<u32>
         ensures { MatchOption result ((p : ℕ) → from ≤ p → letter_at self.now p ≢ Q)
             (λ p. (from ≤ p) × (letter_at self.now p ≡ Q)
@@ -80,7 +80,7 @@ impl Letters {
         self.queued.first_from(from)
     }
 
-    /// Puts the letter at the position, in place of the one that was there.
+    /// Replaces the letter at the position.
     pub(crate) fn set(&mut self, position: u32, letter: Letter)
         requires { position < length self.old }
         ensures { self.new ≡ set self.old position letter }
@@ -94,7 +94,7 @@ impl Letters {
 }
 
 impl Letter {
-    /// Whether the package is held.
+    /// Whether a package with the letter is held.
     pub(crate) fn is_held(self) -> bool
         ensures { result ≡ is_held self }
     {

@@ -1,5 +1,5 @@
 //! Which packages of a tree are ignored, which of the others one build makes, and the letters of
-//! all of them, as more and more are agreed.
+//! all packages as more and more are agreed.
 #![tactic(auto)]
 
 mod counting;
@@ -31,27 +31,29 @@ pub use crate::unit_laws::{
     unit_unless_ignored, units_are_well_made,
 };
 pub use crate::units::Units;
+pub use listing::Tree;
 
-/// How far a package is, in the letters of dpb(1)'s status line. One letter applies, and only one.
+/// The state of a package, as a letter of dpb(1)'s status line. Exactly one letter applies.
 #[derive(Clone, Copy, Debug, PartialEq, Eq, Hash)]
 pub enum Letter {
-    /// To build: neither held nor ignored, and not all that its unit needs to be built is
+    /// To build: neither held nor ignored, and something that its unit needs to be built is not
     /// installable.
     T,
-    /// In the queue, to be built now: neither held nor ignored, and all that its unit needs to be
-    /// built is installable.
+    /// Queued, ready to be built: neither held nor ignored, and everything that its unit needs to
+    /// be built is installable.
     Q,
     /// Built: held, but not installable.
     B,
-    /// Installable: some held packages contain it and, with each member, all its run dependencies.
+    /// Installable: it is in some set of held packages that contains all run dependencies of its
+    /// members.
     I,
-    /// Ignored and not held: in the least set that has each marked package and each package with a
-    /// build or run dependency in the set. `Tree::marked` says which are marked: a dependency that
-    /// isn't listed marks its package.
+    /// Ignored and not held: it is in the least set that contains each marked package and each
+    /// package with a build or run dependency in the set. `Tree::marked` says which packages are
+    /// marked; a dependency that isn't listed marks its package.
     Ignored,
 }
 
-/// How many packages have each letter. Each package of the tree is counted once.
+/// The number of packages with each letter. Each package of the tree is counted once.
 #[derive(Clone, Copy, Debug, PartialEq, Eq)]
 pub struct Counts {
     pub i: u32,

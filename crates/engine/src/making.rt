@@ -7,12 +7,11 @@ ghost use Rattle.engine.specs.inside.Gathering.{lists_of};
 ghost use Rattle.engine.specs.inside.UnitKeeping.{AreAlike, needed_by, needs_in_turn, unit_made};
 
 use faults::Memory;
-use listing::Tree;
-use pkgpath::PkgPath;
+use listing::{PkgPath, Tree};
 use std::alloc::Global;
 
-/// A unit as it is kept: the positions of its packages, in order of path, and of what its build
-/// needs. What the build of a package that is alone needs stands in the tree.
+/// A unit as stored: the positions of its packages, in order of path, and of what its build needs.
+/// For a single package the latter is empty, since the tree has it.
 #[derive(Drop)]
 pub(crate) struct Made {
     pub(crate) packages: Vec<u32>,
@@ -37,7 +36,7 @@ pub(crate) fn units_of(
     Ok(units)
 }
 
-/// The unit of these packages. One that is alone stands in its vector already.
+/// The unit of these packages. The vector of a single package is used as it is.
 fn unit_of(alloc: Global, tree: &Tree, packages: Vec<u32>) -> Result<Made, Memory>
     requires is_tree { IsTree tree.now }
     requires alike { AreAlike tree.now packages.items }
@@ -88,8 +87,8 @@ pub fn paths_at<'a>(
     Ok(paths)
 }
 
-/// The positions of what any of these packages needs to be built and none of them is, ascending,
-/// each once.
+/// The positions of what any of these packages needs to be built, except the packages themselves,
+/// ascending and without duplicates.
 fn needed(alloc: Global, tree: &Tree, packages: &[u32]) -> Result<Vec<u32>, Memory>
     requires is_tree { IsTree tree.now }
     requires alike { AreAlike tree.now packages.now }
@@ -104,7 +103,7 @@ fn needed(alloc: Global, tree: &Tree, packages: &[u32]) -> Result<Vec<u32>, Memo
     Ok(needed)
 }
 
-/// Appends the positions that are not of the unit's own packages.
+/// Appends those positions that are not of the unit's own packages.
 fn add_others(needed: &mut Vec<u32>, packages: &[u32], positions: &[u32]) -> Result<(), Memory>
     requires { IsStrictlyIncreasing packages.now }
     ensures { OnOk result (needed.new.items

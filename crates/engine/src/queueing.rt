@@ -1,4 +1,5 @@
-//! Which units wait, and for how many packages; what changes when a package becomes installable.
+//! Which units wait, and for how many packages, and what changes when a package becomes
+//! installable.
 ghost use Rattle.std.specs.Prelude.{◌≡◌, ◌<◌, ◌-◌, ◌⊎◌, ◌≢◌, ℕ, All, Contains, length, set, slice_index};
 ghost use Rattle.graph.specs.Lists.{AreReversed, times};
 ghost use Rattle.engine.specs.inside.Queueing.{AreFitting, AreQueued, AreQueueing, needs_of};
@@ -9,7 +10,7 @@ use crate::letters::Letters;
 use crate::{Letter, Units};
 use graph::Reversed;
 
-/// Shows those of the packages that wait as queued.
+/// Changes the letter of those of the packages that wait to Q.
 fn queue(letters: &mut Letters, packages: &[u32])
     requires { All (λ p. p < length letters.old) packages.now }
     ensures each { length letters.new ≡ length letters.old }
@@ -25,7 +26,7 @@ fn queue(letters: &mut Letters, packages: &[u32])
     }
 }
 
-/// The unit waits for one package less. If it waits for no more, its packages are queued.
+/// The unit waits for one package less. When it waits for none, its packages are queued.
 fn wait_less(letters: &mut Letters, waits: &mut [usize], units: &Units<'_>, unit: u32)
     requires listed { unit < length waits.old }
     requires some { 0 < slice_index waits.old unit }
@@ -40,7 +41,7 @@ fn wait_less(letters: &mut Letters, waits: &mut [usize], units: &Units<'_>, unit
     }
 }
 
-/// The package is installable, so that the units that need it wait for one less.
+/// The package becomes installable, so the units that need it wait for one package less.
 fn install(
     letters: &mut Letters,
     waits: &mut [usize],
@@ -63,7 +64,7 @@ fn install(
     }
 }
 
-/// Those of the found packages that are built and lack nothing are installable.
+/// Makes those of the found packages installable that are built and lack nothing.
 pub(crate) fn install_all(
     letters: &mut Letters,
     waits: &mut [usize],

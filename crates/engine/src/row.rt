@@ -6,14 +6,14 @@ ghost use Rattle.engine.specs.inside.Row.{bit_of};
 use faults::Memory;
 use std::alloc::Global;
 
-/// The bits in words of 64, the lowest bit of the first word for the first position.
+/// The bits in words of 64; the lowest bit of the first word is the first position's.
 #[derive(Drop)]
 pub(crate) struct Row {
     words: Vec<u64>,
 }
 
 impl Row {
-    /// A bit for each of so many positions, none of them set.
+    /// A row of `len` bits, none of them set.
     pub(crate) fn new(alloc: Global, len: u32) -> Result<Row, Memory>
         ensures room { IfOk result (λ row. length row.words.items ≡ len / 64 + 1) }
         ensures clear { IfOk result (λ row. (p : ℕ) → bit_of row p ≡ 0) }
@@ -38,7 +38,7 @@ impl Row {
         }
     }
 
-    /// The least position at or behind this one whose bit is set, if one is.
+    /// The lowest position from this one on whose bit is set, if there is one.
     pub(crate) fn first_from(&self, from: u32) -> Option<u32>
         requires { length self.now.words.items < 2 ^ 26 }
         ensures { MatchOption result ((p : ℕ) → from ≤ p → bit_of self.now p ≡ 0)
@@ -56,7 +56,7 @@ impl Row {
         self.first_in(place + 1)
     }
 
-    /// The least position whose bit is set in this word or a later one, if one is.
+    /// The lowest position whose bit is set in this word or a later one, if there is one.
     fn first_in(&self, start: usize) -> Option<u32>
         requires { length self.now.words.items < 2 ^ 26 }
         ensures { MatchOption result ((p : ℕ) → start * 64 ≤ p → bit_of self.now p ≡ 0)

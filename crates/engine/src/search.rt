@@ -1,4 +1,4 @@
-//! Which packages become installable with one that is built, where they may need each other.
+//! Which packages become installable when one is built. They may need each other.
 ghost use Rattle.std.specs.Prelude.{◌≡◌, ◌<◌, ◌≤◌, ◌⊎◌, ◌+◌, ◌^◌, ℕ, false, true, All, Contains, IfOk, length, slice_index, vec_capacity, [], List};
 ghost use Rattle.graph.specs.Lists.{AreReversed, list_at, one_if, times};
 ghost use Rattle.graph.specs.Marks.{has_mark};
@@ -15,8 +15,8 @@ use graph::Reversed;
 use std::alloc::Global;
 use std::marker::Model;
 
-/// Marks by position, those that were found, in that order, and those of them that were dropped
-/// again. Between two searches nothing is marked.
+/// Marks by position, the packages found, in that order, and those of them that were dropped again.
+/// Between two searches nothing is marked.
 #[derive(Drop)]
 pub(crate) struct Search {
     marks: Vec<bool>,
@@ -37,7 +37,7 @@ impl Model for Search {
 }
 
 impl Search {
-    /// Makes the room to search among so many positions. Searches take no memory then.
+    /// Allocates the buffers to search among `len` positions. Searches do not allocate.
     pub(crate) fn new(alloc: Global, len: u32) -> Result<Search, Memory>
         ensures { IfOk result (λ search. search ≡ record { len = len; found = [] }) }
     {
@@ -51,9 +51,10 @@ impl Search {
         })
     }
 
-    /// Finds the built packages that need the one at the position to run, through others of them,
-    /// itself included, and takes all of them for installable. Those that lack more than that are
-    /// dropped again, with those that need them. What each package lacks is told anew.
+    /// Finds the built packages that need the one at the position to run, directly or through each
+    /// other, itself included, and assumes that all of them are installable. Those that lack more
+    /// than these are dropped again, together with those that need them. Updates the lack counts of
+    /// all packages.
     pub(crate) fn settle(
         &mut self,
         letters: &Letters,
@@ -86,7 +87,7 @@ impl Search {
         unmark(marks, self.found.as_slice());
     }
 
-    /// What the last search found, each once.
+    /// The packages that the last search found, without duplicates.
     pub(crate) fn found(&self) -> &[u32]
         ensures { result.now ≡ self.now.found }
     {
@@ -94,7 +95,7 @@ impl Search {
     }
 }
 
-/// Whether all of the positions are held, or they are more than so many, which are not looked at.
+/// Whether all of the positions are held, or there are more than `most`, which are not examined.
 pub(crate) fn may_all_be_held(letters: &Letters, positions: &[u32], most: usize) -> bool
     requires within { All (λ p. p < length letters.now) positions.now }
     ensures lacking { result ≡ false → (q : ℕ) × Contains positions.now q
@@ -111,7 +112,7 @@ pub(crate) fn may_all_be_held(letters: &Letters, positions: &[u32], most: usize)
     true
 }
 
-/// Marks the position, which is built, and each built one that the lists lead to from there through
+/// Marks the position, which is built, and each built one that the lists reach from there through
 /// built ones.
 fn gather(
     letters: &Letters,
@@ -135,7 +136,7 @@ fn gather(
     follow(letters, marks, found, runs);
 }
 
-/// Marks those of the positions that are built and have no mark, and puts them behind the found
+/// Marks those of the positions that are built and have no mark, and appends them to the found
 /// ones.
 fn find(letters: &Letters, marks: &mut [bool], found: &mut Vec<u32>, positions: &[u32])
     requires found { AreFound marks.old found.old.items }
@@ -164,7 +165,7 @@ fn find(letters: &Letters, marks: &mut [bool], found: &mut Vec<u32>, positions: 
     }
 }
 
-/// Marks all built ones that the lists lead to from the found ones through built ones.
+/// Marks all built ones that the lists reach from the found ones through built ones.
 fn follow(letters: &Letters, marks: &mut [bool], found: &mut Vec<u32>, runs: &Reversed)
     requires found { AreFound marks.old found.old.items }
     requires letters { length letters.now ≡ length marks.old }
@@ -186,8 +187,8 @@ fn follow(letters: &Letters, marks: &mut [bool], found: &mut Vec<u32>, runs: &Re
     }
 }
 
-/// Takes all of the found ones for installable, then those that lack more than that for not
-/// installable, and with them those that need them. These are dropped.
+/// Assumes that all found ones are installable. Then drops those that lack something else, and with
+/// them those that need them.
 fn sift(
     lacks: &mut [usize],
     marks: &mut [bool],
@@ -214,7 +215,8 @@ fn sift(
     drop_needing(lacks, marks, dropped, runs);
 }
 
-/// Each of those that the lists of the found ones have lacks one less, as often as they have it.
+/// Decrements the count of each package in the lists of the found ones, once for each time that it
+/// is in them.
 fn lower_all(lacks: &mut [usize], runs: &Reversed, found: &[u32])
     requires within { All (λ p. p < length runs.now) found.now }
     requires each { length lacks.old ≡ length runs.now }
@@ -247,8 +249,8 @@ fn drop_lacking(lacks: &[usize], marks: &mut [bool], dropped: &mut Vec<u32>, fou
     }
 }
 
-/// Drops the marked ones that the lists have of what was dropped. Each of those that the lists of
-/// dropped ones have lacks one more, as often as they have it.
+/// Drops the marked packages in the lists of dropped ones. Increments the count of each package in
+/// these lists, once for each time that it is in them.
 fn drop_needing(lacks: &mut [usize], marks: &mut [bool], dropped: &mut Vec<u32>, runs: &Reversed)
     requires each { length marks.old ≡ length runs.now }
     requires lacks { length lacks.old ≡ length runs.now }
@@ -277,8 +279,7 @@ fn drop_needing(lacks: &mut [usize], marks: &mut [bool], dropped: &mut Vec<u32>,
     }
 }
 
-/// Takes the marks off those of the positions that have one, and puts these behind the dropped
-/// ones.
+/// Clears the marks of those of the positions that have one, and appends these to the dropped ones.
 fn drop(marks: &mut [bool], dropped: &mut Vec<u32>, positions: &[u32])
     requires within { All (λ p. p < length marks.old) positions.now }
     requires room { marked_many marks.old + length dropped.old.items ≤ vec_capacity dropped.old }
@@ -297,7 +298,7 @@ fn drop(marks: &mut [bool], dropped: &mut Vec<u32>, positions: &[u32])
     }
 }
 
-/// Takes all marks off, which stand at found ones.
+/// Clears all marks; only found positions have one.
 fn unmark(marks: &mut [bool], found: &[u32])
     requires within { All (λ p. p < length marks.old) found.now }
     requires only { (p : ℕ) → has_mark marks.old p ≡ true → Contains found.now p }

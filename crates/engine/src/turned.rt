@@ -1,4 +1,4 @@
-//! At each package what needs it: the lists of a tree and its units, turned around.
+//! For each package what needs it: the dependency lists of a tree and its units, reversed.
 ghost use Rattle.std.specs.Prelude.{◌≡◌, IfOk, length};
 ghost use Rattle.graph.specs.Lists.{AreReversed};
 ghost use Rattle.listing.specs.Tree.{run_at};
@@ -10,7 +10,7 @@ use graph::{Naming, Reversed};
 use listing::Tree;
 use std::alloc::Global;
 
-/// At each package the units whose build needs it, and the packages that need it to run.
+/// For each package the units whose build needs it, and the packages that need it to run.
 pub(crate) fn turned_lists(
     alloc: Global,
     tree: &Tree,
@@ -27,7 +27,7 @@ pub(crate) fn turned_lists(
     Ok((needs, runs))
 }
 
-/// At each package those that need it to run.
+/// For each package those that need it to run.
 fn turned_runs(alloc: Global, tree: &Tree) -> Result<Reversed, Memory>
     ensures { IfOk result (λ runs.
         AreReversed (length tree.now) (length tree.now) (run_at tree.now) runs) }
@@ -39,7 +39,7 @@ fn turned_runs(alloc: Global, tree: &Tree) -> Result<Reversed, Memory>
     runs.turned(alloc)
 }
 
-/// At each package the units whose build needs it.
+/// For each package the units whose build needs it.
 fn turned_needs(alloc: Global, tree: &Tree, units: &Units<'_>) -> Result<Reversed, Memory>
     requires { units.now.tree ≡ tree.now }
     ensures { IfOk result (λ needs.

@@ -1,4 +1,4 @@
-//! The units of a tree, which contracts see as a list.
+//! The units of a tree. Contracts see them as a list.
 ghost use Rattle.std.specs.Prelude.{◌≡◌, ◌<◌, ◌↔◌, All, IfOk, IsTrue, MatchOption, Some, length, option_and_then};
 ghost use Rattle.listing.specs.Tree.{ArePositions, position_of};
 ghost use Rattle.engine.specs.Division.{IsDivision, number_found, number_of, unit_at};
@@ -9,22 +9,20 @@ use crate::ignored::ignored_marks;
 use crate::making::{Made, units_of};
 use faults::Memory;
 use indexmap::IndexSet;
-use listing::Tree;
-use pkgpath::PkgPath;
+use listing::{PkgPath, Tree};
 use std::alloc::Global;
 use std::marker::Model;
 use std::rc::Rc;
 
 /// The units of a tree: one build makes all packages of a group that are not ignored. Units are
-/// numbered from 0 in the order of their least positions.
-/// Copies share what they say, which nothing changes.
+/// numbered from 0 in the order of their lowest positions. Copies share their immutable data.
 #[derive(Drop)]
 pub struct Units<'a> {
     tree: &'a Tree,
     parts: Rc<Parts>,
 }
 
-/// What is kept of the units.
+/// The data that copies of `Units` share.
 #[derive(Drop)]
 struct Parts {
     units: Vec<Made>,
@@ -68,7 +66,7 @@ impl<'a> Units<'a> {
         Ok(Units { tree, parts })
     }
 
-    /// Equal units, which share what they say with these.
+    /// Copies the units; the data is shared.
     pub fn copy(&self) -> Result<Units<'a>, Memory>
         ensures { IfOk result (λ units. units ≡ self.now) }
     {
@@ -79,7 +77,7 @@ impl<'a> Units<'a> {
         })
     }
 
-    /// How many units there are. Their numbers are those below that.
+    /// The number of units. Their numbers are those below it.
     pub fn len(&self) -> u32
         ensures count { result ≡ length self.now.units }
         ensures division { IsDivision self.now }
@@ -117,7 +115,7 @@ impl<'a> Units<'a> {
         self.tree.group(packages[0])
     }
 
-    /// The positions of the unit's packages, in order of path. There is one at least.
+    /// The positions of the unit's packages, in order of path. There is at least one.
     pub fn packages(&self, unit: u32) -> &[u32]
         requires { unit < length self.now.units }
         ensures value { result.now ≡ (unit_at self.now unit).packages }
@@ -128,8 +126,8 @@ impl<'a> Units<'a> {
         made.packages.as_slice()
     }
 
-    /// The positions of what the unit's build needs, ascending, each once: what any of its packages
-    /// needs to be built, without the unit's own packages where they are two or more.
+    /// The positions of what the unit's build needs, ascending and without duplicates: what any of
+    /// its packages needs to be built, except, if it has several packages, these packages.
     pub fn build_deps(&self, unit: u32) -> &[u32]
         requires { unit < length self.now.units }
         ensures value { result.now ≡ (unit_at self.now unit).build }
@@ -154,7 +152,7 @@ impl<'a> Units<'a> {
         self.unit_of(self.tree.position(path)?)
     }
 
-    /// The unit of two or more packages that has this name. Where there is none, the path is that
+    /// The unit with this name, if it has two or more packages. If there is none, the path is that
     /// of a package, or names no unit.
     fn named(&self, path: &PkgPath) -> Option<u32>
         ensures { MatchOption result

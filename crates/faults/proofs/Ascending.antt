@@ -1,4 +1,4 @@
--- Lists that ascend.
+-- Ascending lists.
 use Rattle.std.proofs.Common.{◌≡◌, ◌≢◌, ◌<◌, ◌↔◌, inl, inr, ℕ, suc, List, [], ◌∷◌, refl, sym, ap, subst, ◌∙◌, arith, true≢false}
 use Rattle.std.specs.Prelude.{AllPairs, Contains}
 use Rattle.std.specs.Cmp.{IsTotalOrder, nat_cmp_is, tied_itself}
@@ -11,7 +11,7 @@ use Rattle.std.proofs.lemmas.List.Elements.{All-contains_itself}
 use Rattle.std.proofs.lemmas.List.Kept.{AllPairs-cons, AllPairs-from_increasing}
 use Rattle.faults.proofs.Members.{contains_first, contains_later, member_cases, no_members}
 
--- each element is below all behind it
+-- each element is below all that follow it
 abbrev pub Rising : {X : Type 0} → (X → X → Ordering) → List X → Type 0
 Rising R [] = Unit {0}
 Rising {X} R (x ∷ xs) = ((y : X) → Contains xs y → R x y ≡ Less) × Rising R xs
@@ -20,7 +20,7 @@ module _ {X : Type 0} (R : X → X → Ordering) (total : IsTotalOrder R) where
   not_below_itself : (x : X) → R x x ≡ Less → ⊥
   not_below_itself x less = true≢false (sym (ap is_eq (tied_itself total x)) ∙ ap is_eq less)
 
-  -- elements that ascend differ
+  -- the elements of an ascending list differ
   pub differ : (xs : List X) → Rising R xs → AllPairs ◌≢◌ xs
   differ [] rising = λ i j d l m e. omega arith
   differ (x ∷ xs) rising =
@@ -28,7 +28,7 @@ module _ {X : Type 0} (R : X → X → Ordering) (total : IsTotalOrder R) where
       (λ k d l same. not_below_itself x (subst (λ y. R x y ≡ Less) (sym same) (rising.0 _ (All-contains_itself xs k d l))))
       (differ xs rising.1)
 
-  -- a member behind the first is not the first of the other list
+  -- an element after the first is not the first of the other list
   in_tail : (x : X) (xs ys : List X) (y : X) → Rising R (x ∷ xs) → Contains xs y → Contains (x ∷ ys) y → Contains ys y
   in_tail x xs ys y rising mine other =
       elim (member_cases x y ys other) [
@@ -36,7 +36,7 @@ module _ {X : Type 0} (R : X → X → Ordering) (total : IsTotalOrder R) where
         | inr later ↦ later
       ]
 
-  -- the first of two lists with the same members
+  -- the first of two lists with the same elements
   same_first : (x y : X) (xs ys : List X) → Rising R (x ∷ xs) → Rising R (y ∷ ys) → Contains (y ∷ ys) x → Contains (x ∷ xs) y → x ≡ y
   same_first x y xs ys mine other here there =
       elim (member_cases y x ys here) [
@@ -47,7 +47,7 @@ module _ {X : Type 0} (R : X → X → Ordering) (total : IsTotalOrder R) where
         ]
       ]
 
-  -- lists that ascend and have the same members are the same
+  -- ascending lists with the same elements are equal
   pub same_members : (xs ys : List X) → Rising R xs → Rising R ys → ((x : X) → Contains xs x → Contains ys x) → ((x : X) → Contains ys x → Contains xs x) → xs ≡ ys
   same_members [] [] mine other there back = refl
   same_members [] (y ∷ ys) mine other there back = absurd (no_members y (back y (contains_first y ys)))
@@ -60,7 +60,7 @@ module _ {X : Type 0} (R : X → X → Ordering) (total : IsTotalOrder R) where
       (λ z m. in_tail y ys xs z other m (subst (λ w. Contains (w ∷ xs) z) e (back z (contains_later y z ys m)))) in
       λ i. e i ∷ tails i
 
--- elements of which each stands below all behind it
+-- a list in which each element is below all that follow it
 pub rising_from_pairs : {X : Type 0} (R : X → X → Ordering) (xs : List X) → AllPairs (λ x y. R x y ≡ Less) xs → Rising R xs
 rising_from_pairs R [] pairs = tt
 rising_from_pairs R (x ∷ xs) pairs = (
@@ -77,7 +77,7 @@ rising_numbers (x ∷ xs) pairs = (
   rising_numbers xs (λ i j d l m. pairs (suc i) (suc j) d (omega arith) (omega arith)),
 )
 
--- ascending lists with the same members are the same
+-- ascending lists with the same elements are equal
 pub same_ascending : (xs ys : List ℕ) → IsStrictlyIncreasing xs → IsStrictlyIncreasing ys → ((p : ℕ) → Contains xs p ↔ Contains ys p) → xs ≡ ys
 same_ascending xs ys hx hy same =
     same_members nat_cmp nat_cmp_total xs ys (rising_numbers xs (AllPairs-from_increasing xs hx)) (rising_numbers ys (AllPairs-from_increasing ys hy))

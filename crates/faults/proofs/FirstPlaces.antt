@@ -1,4 +1,4 @@
--- The first place at which a test passes, and the cut of a text there.
+-- The first place at which a test passes, and splitting a text there.
 use Rattle.std.proofs.Common.{◌≡◌, ◌<◌, ◌≤◌, ◌+◌, ◌-◌, ◌++◌, ℕ, suc, zero, Bool, true, false, not, cond, nat_lt, eqb, List, [], ◌∷◌, length, position, take, drop, get_or, Option, None, Some, refl, sym, ap, ◌∙◌, arith, inl, inr}
 use Rattle.std.specs.List.{list_any, position_or_len, slice_split}
 use Rattle.std.proofs.lemmas.Bool.{cases_lt, le-ltb, lt-ltb, eqb-true, or_parts}
@@ -13,7 +13,7 @@ pub not_true : (b : Bool) → ¬ (b ≡ true) → b ≡ false
 not_true true h = absurd (h refl)
 not_true false h = refl
 
--- what a search for the first byte finds is its position
+-- a search for the first byte finds its position
 pub first_place : (p : ℕ → Bool) (xs : List ℕ) (r : Option ℕ) → IsFirstByte p xs r → position p xs ≡ r
 first_place p xs None h =
     let all : position_or_len p xs ≡ length xs =
@@ -25,7 +25,7 @@ first_place p xs (Some i) h =
     (λ k l. ap not (not_true (p (get_or xs k 0)) (h.0.before k (omega arith) l))) (λ l. ap not h.1) in
     ap (λ n. cond (nat_lt n (length xs)) (Some n) None) at ∙ ap (λ b. cond b (Some i) None) (lt-ltb i (length xs) h.0.high)
 
--- the text up to the first separator, and the pieces of what stands behind it
+-- the text up to the first separator, and the pieces of the text after it
 pub pieces_from_Some : (p : ℕ → Bool) (text : List ℕ) (i : ℕ) → position p text ≡ Some i → slice_split p text ≡ take i text ∷ slice_split p (drop (i + 1) text)
 pieces_from_Some p text i e = elim (cases_lt (position_or_len p text) (length text)) [
   | inl within ↦
@@ -41,18 +41,18 @@ pieces_from_None p text e = elim (cases_lt (position_or_len p text) (length text
   | inr past ↦ slice_split_none p text (λ k d l. fails_before_first p text k d (omega arith))
 ]
 
--- a byte that is looked for and not found doesn't stand in the text
+-- a byte that is searched for and not found doesn't occur in the text
 pub has_no_byte : (c : ℕ) (text : List ℕ) → ((k : ℕ) → k < length text → ¬ (eqb (get_or text k 0) c ≡ true)) → has_byte c text ≡ false
 has_no_byte c [] none = refl
 has_no_byte c (b ∷ bs) none =
     let first : eqb b c ≡ false = not_true (eqb b c) (none zero (omega arith)) in
     rw first (has_no_byte c bs (λ k l. none (suc k) (omega arith)))
 
--- a text is what stands before a place, the byte there, and what stands behind it
+-- a text is the part before a place, the byte there, and the part after it
 pub cut_at : (text : List ℕ) (i : ℕ) → i < length text → text ≡ take i text ++ get_or text i 0 ∷ drop (i + 1) text
 cut_at text i within = sym (ap (λ rest. take i text ++ rest) (sym (drop_more text i 0 within)) ∙ take-append-drop i text)
 
--- a text is cut at the first place of a byte: what stands before it lacks the byte
+-- a text that is split at the first place of a byte: the part before it lacks the byte
 pub halves_at : (c : ℕ) (text : List ℕ) (i : ℕ) → IsFirstByte (λ b. eqb b c) text (Some i)
     → (text ≡ take i text ++ c ∷ take (length text - (i + 1)) (drop (i + 1) text)) × (has_byte c (take i text) ≡ false)
 halves_at c text i h =
@@ -65,7 +65,7 @@ halves_at c text i h =
     rw (get_or-take i text k 0 below) (h.0.before k (omega arith) below)) in
     (rw (take_rest text (i + 1)) whole, before)
 
--- what stands before the first that passes is all before it
+-- the part before the first element that passes is all that precedes it
 pub ends_before : (p : ℕ → Bool) (xs : List ℕ) (y : ℕ) (ys : List ℕ) → list_any p xs ≡ false
     → p y ≡ true → position_or_len p (xs ++ y ∷ ys) ≡ length xs
 ends_before p [] y ys none here = ap (λ b. cond (not b) (1 + position_or_len p ys) 0) here

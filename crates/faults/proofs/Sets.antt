@@ -1,4 +1,4 @@
--- Sets of texts: their members, that they ascend, and that sorting makes them.
+-- Sets of texts: their elements, that they ascend, and that sorting makes them.
 use Rattle.std.proofs.Common.{◌≡◌, ◌⊎◌, ◌∙◌, ◌+◌, ◌<◌, inl, inr, Bool, true, false, cond, List, [], ◌∷◌, length, map, refl, sym, ap, subst, arith}
 use Rattle.std.specs.Prelude.{Contains}
 use Rattle.std.specs.Cmp.Lexicographic.{bytes_decides, nat_list_cmp_total, nat_list_eq_equiv, texts_ties}
@@ -19,9 +19,9 @@ use Rattle.faults.specs.Pieces.{by_order, set_of, text_cmp, with_member}
 use Rattle.faults.proofs.Ascending.{Rising, same_members}
 use Rattle.faults.proofs.Members.{contains_first, contains_later, member_cases, no_members}
 
--- ---- members
+-- ---- elements
 
--- what stands at the same place is the same
+-- texts that compare as equal are equal
 pub same_texts : (t u : Text) → text_cmp t u ≡ Equal → t ≡ u
 same_texts t u same = (bytes_decides t u).0 (texts_ties t u ∙ ap is_eq same)
 
@@ -64,7 +64,7 @@ old_member t x (u ∷ us) member = by (text_cmp t u) (old_member t x us)
           | inr later ↦ contains_later u x (with_member t us) (rest later)
         ]
 
--- a member of a list's set is one of the list
+-- an element of a list's set is one of the list
 pub from_set : (ts : List Text) (x : Text) → Contains (set_of ts) x → Contains ts x
 from_set [] x member = member
 from_set (t ∷ ts) x member =
@@ -73,7 +73,7 @@ from_set (t ∷ ts) x member =
       | inr old ↦ contains_later t x ts (from_set ts x old)
     ]
 
--- and the other way round
+-- and conversely
 pub into_set : (ts : List Text) (x : Text) → Contains ts x → Contains (set_of ts) x
 into_set [] x member = member
 into_set (t ∷ ts) x member =
@@ -117,7 +117,7 @@ set_rises (t ∷ ts) = rising_with t (set_of ts) (set_rises ts)
 
 -- ---- sets by sorting
 
--- texts each below all behind it rise
+-- sorted texts without repetition ascend
 rises : (us : List Text) → IsStrictlySortedBy text_cmp us → Rising text_cmp us
 unfolding IsStrictlySortedBy
 rises [] sorted = tt
@@ -125,18 +125,18 @@ rises (u ∷ us) sorted =
     let below = All-from_recursion (λ w. text_cmp u w ≡ Less) us sorted.0 in
     (λ t member. All-contains (λ w. text_cmp u w ≡ Less) us t below member, rises us sorted.1)
 
--- texts that rise and have the members of a list are its set
+-- ascending texts with the elements of a list are its set
 same_set : (ts us : List Text) → Rising text_cmp us → ((x : Text) → Contains us x → Contains ts x)
     → ((x : Text) → Contains ts x → Contains us x) → us ≡ set_of ts
 same_set ts us rising there back =
     same_members text_cmp nat_list_cmp_total us (set_of ts) rising (set_rises ts)
     (λ x member. into_set ts x (there x member)) (λ x member. back x (from_set ts x member))
 
--- texts that rise are a set
+-- ascending texts are a set
 pub set_stays : (ts : List Text) → Rising text_cmp ts → set_of ts ≡ ts
 set_stays ts rising = sym (same_set ts ts rising (λ x member. member) (λ x member. member))
 
--- a list that is sorted, and then without what is the same as what stands before it, is its set
+-- a list that is sorted, and from which repetitions are then removed, is its set
 sorted_set : (ts us : List Text) → IsPermutation ts us → IsSorted text_cmp us
     → dedup bytes_eq us ≡ set_of ts
 sorted_set ts us moved sorted =
@@ -149,7 +149,7 @@ sorted_set ts us moved sorted =
     Contains-dedup nat_list_eq_equiv (λ t u. (bytes_decides t u).0) us x there)
 
 module _ {X : Type 0} (f : X → Text) where
-  -- their texts are the same
+  -- their texts are equal
   abbrev same_text : X → X → Bool
   same_text x y = bytes_eq (f x) (f y)
 
@@ -182,8 +182,8 @@ module _ {X : Type 0} (f : X → Text) where
       first_of [] some = absurd (omega arith)
       first_of (y ∷ ys) some = y
 
-  -- things sorted by their texts, and then without those whose text stands before them, have the
-  -- set of the texts
+  -- elements that are sorted by their texts, and from which those with a repeated text are then
+  -- removed, have the set of the texts
   pub set_by_sorting : (xs ys zs : List X) → IsPermutation xs ys → IsSortedByKey f text_cmp ys
       → IsFiltered (DiffersFromLast same_text) [] ys zs → map f zs ≡ set_of (map f xs)
   set_by_sorting xs ys zs moved sorted kept =

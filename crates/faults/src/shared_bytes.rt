@@ -1,5 +1,5 @@
-//! Bytes that copies share, for texts of which there are many, short and never changed: as package
-//! paths and names.
+//! Bytes that copies share, for many short texts that never change, such as package paths and
+//! names.
 ghost use Rattle.std.specs.Prelude.{◌≡◌, ◌≤◌, IfOk, length};
 
 use crate::Memory;
@@ -7,10 +7,11 @@ use std::alloc::Global;
 use std::marker::Model;
 use std::rc::Rc;
 
-/// How many bytes stand beside the count of owners, with no memory of their own.
+/// The number of bytes that are stored next to the reference count, without an allocation of their
+/// own.
 const SHORT: usize = 39;
 
-/// Few bytes: the first ones of a table, which contracts see as their list.
+/// Few bytes, stored at the front of a table. Contracts see them as a list.
 #[derive(Drop)]
 struct ShortBytes {
     table: [u8; SHORT],
@@ -50,7 +51,7 @@ impl ShortBytes {
     }
 }
 
-/// Bytes, beside which nothing else stands where they are few.
+/// Bytes, stored in place if they are few.
 #[derive(Drop)]
 enum Bytes {
     Short(ShortBytes),
@@ -92,7 +93,7 @@ impl Bytes {
     }
 }
 
-/// Bytes that copies share, which contracts see as their list.
+/// Bytes that copies share. Contracts see them as a list.
 #[derive(Drop)]
 pub struct SharedBytes {
     bytes: Rc<Bytes>,
@@ -109,7 +110,7 @@ impl Model for SharedBytes {
 }
 
 impl SharedBytes {
-    /// Equal bytes, which nobody shares yet.
+    /// Equal bytes, which are not shared yet.
     pub fn of(alloc: Global, bytes: &[u8]) -> Result<SharedBytes, Memory>
         ensures { IfOk result (λ shared. shared ≡ bytes.now) }
     {
@@ -117,7 +118,7 @@ impl SharedBytes {
         Ok(SharedBytes { bytes, alloc })
     }
 
-    /// These bytes, which nobody shares yet. Many are not copied.
+    /// These bytes, which are not shared yet. Many bytes are not copied.
     pub fn of_vec(alloc: Global, bytes: Vec<u8>) -> Result<SharedBytes, Memory>
         ensures { IfOk result (λ shared. shared ≡ bytes.items) }
     {
@@ -132,7 +133,7 @@ impl SharedBytes {
         self.bytes.as_slice()
     }
 
-    /// Equal bytes, which are shared.
+    /// Equal bytes, shared with these.
     pub fn copy(&self) -> Result<SharedBytes, Memory>
         ensures { IfOk result (λ shared. shared ≡ self.now) }
     {
@@ -143,7 +144,7 @@ impl SharedBytes {
         })
     }
 
-    /// Where their memory comes from.
+    /// The allocator of the bytes.
     pub fn allocator(&self) -> Global {
         self.alloc
     }

@@ -1,11 +1,11 @@
-//! The first cut of a text.
+//! Splitting a text at its first separator.
 ghost use Rattle.std.specs.Prelude.{◌≡◌, ◌<◌, ◌++◌, ◌∷◌, [], false, length, IfSome, MatchOption};
 ghost use Rattle.faults.specs.Bytes.{has_byte};
 ghost use Rattle.faults.specs.Pieces.{pieces_at};
 
 use memchr::memchr;
 
-/// What stands before the first separator and what stands behind it, where there is one.
+/// The text before the first separator and the text after it, if there is one.
 pub fn split_once(text: &[u8], separator: u8) -> Option<(&[u8], &[u8])>
     ensures pieces { MatchOption result
         (pieces_at separator text.now ≡ text.now ∷ [])

@@ -1,13 +1,13 @@
--- Links to which names are added, and the lists to which they lead.
+-- Links to which names are added, and the lists that they form.
 use Rattle.std.proofs.Common.{◌≡◌, ◌+◌, ◌<◌, ◌≤◌, ℕ, zero, suc, List, [], ◌∷◌, ◌++◌, All, cond, nat_eq, get_or, length, replicate, set, refl, sym, ap, ◌∙◌, inl, inr, arith, add-one}
 use Rattle.std.proofs.lemmas.Bool.{cases_eq, cases_lt, eq-eqb, ne_eqb}
 use Rattle.std.proofs.lemmas.List.{get_or_append_left, get_or-map, get_or_push, get_or-replicate, get_or-set_other, get_or-set_same, length-replicate, length-set, length_push, map-set}
 use Rattle.graph.specs.declared.naming.Link.{Link}
 use Rattle.graph.specs.inside.Links.{AreLinked, link_behind, linked_below, linked_list, linked_lists}
 
--- ---- where links lead
+-- ---- following links
 
--- links behind a link are not needed to follow it
+-- following a link doesn't depend on later links
 pub linked_below-settled : (links : List Link) (n h : ℕ) → h ≤ n → linked_below links n h ≡ linked_list links h
 linked_below-settled links zero zero below = refl
 linked_below-settled links zero (suc h) below = absurd (omega arith)
@@ -18,7 +18,7 @@ linked_below-settled links (suc n) h below = elim (cases_eq h (suc n)) [
       ∙ linked_below-settled links n h (omega (arith, below, other))
 ]
 
--- the link behind the first k, and then what it leads to
+-- the list of a link is its name, followed by the list of the earlier link
 pub linked_list-more : (links : List Link) (k h : ℕ) → h ≡ k + 1 → (link_behind links k).earlier ≤ k
     → linked_list links h ≡ (link_behind links k).who ∷ linked_list links (link_behind links k).earlier
 linked_list-more links k h is earlier =
@@ -26,7 +26,7 @@ linked_list-more links k h is earlier =
     ∙ ap (λ b. cond b ((link_behind links k).who ∷ linked_below links k (link_behind links k).earlier) (linked_below links k (suc k))) (eq-eqb (suc k) (suc k) refl)
     ∙ ap (λ ps. (link_behind links k).who ∷ ps) (linked_below-settled links k (link_behind links k).earlier earlier)
 
--- ---- one link more
+-- ---- one more link
 
 pub linked_below-push : (links : List Link) (link : Link) (n h : ℕ) → n ≤ length links → linked_below (links ++ link ∷ []) n h ≡ linked_below links n h
 linked_below-push links link zero h within = refl
@@ -46,7 +46,7 @@ linked_lists-push links link (h ∷ hs) there =
     ap (λ ps. ps ∷ linked_lists (links ++ link ∷ []) hs) (linked_list-push links link h (there 0 0 (omega arith)))
     ∙ ap (λ lists. linked_list links h ∷ lists) (linked_lists-push links link hs (λ k d inside. there (suc k) d (omega (arith, inside))))
 
--- the last link, and then what it leads to
+-- the list of the last link is its name, followed by the list of the earlier link
 pub linked_list-last : (links : List Link) (link : Link) → link.earlier ≤ length links
     → linked_list (links ++ link ∷ []) (length links + 1) ≡ link.who ∷ linked_list links link.earlier
 linked_list-last links link earlier =
@@ -90,7 +90,7 @@ module _ {links : List Link} {latest : List ℕ} (are : AreLinked links latest) 
       ];
     }
 
-    -- the list of the position begins with the name that was added, and the others are as before
+    -- the added name is put in front of the position's list, and the other lists stay the same
     pub linked_lists-more : linked_lists (links ++ link ∷ []) (set latest o (length links + 1))
         ≡ set (linked_lists links latest) o (link.who ∷ get_or (linked_lists links latest) o [])
     linked_lists-more =

@@ -1,4 +1,4 @@
--- How often a position stands in a list.
+-- How many times a position is in a list.
 use Rattle.std.proofs.Common.{◌≡◌, ◌+◌, ◌<◌, ℕ, zero, suc, Bool, true, false, cond, nat_eq, List, [], ◌∷◌, ◌++◌, length, set, take, get_or, Contains, refl, sym, ap, ◌∙◌, inl, inr, arith}
 use Rattle.std.proofs.lemmas.Bool.{cases_eq, eq-eqb, ne_eqb}
 use Rattle.std.proofs.lemmas.List.{get_or-set_same, get_or-set_other}
@@ -26,7 +26,7 @@ contained-times p (q ∷ qs) some = elim (cases_eq q p) [
       (suc rest.0, omega (arith, rest.1), rest.2)
 ]
 
--- ---- lists turned around
+-- ---- reversed lists
 
 -- one more name at a position
 pub list_at-more : (lists : List (List ℕ)) (o p : ℕ) (d x : ℕ) → o < length lists
@@ -51,13 +51,13 @@ list_at-more lists o p d x within = elim (cases_eq d o) [
     nothing true b e = let z : one_if b ≡ 0 = ap one_if e in omega (arith, z)
     nothing false b e = omega arith
 
--- what is read within a list, whatever would be read past its end
+-- an element at an index in range doesn't depend on the default
 pub get_or-same : {A : Type 0} (xs : List A) (i : ℕ) (a b : A) → i < length xs → get_or xs i a ≡ get_or xs i b
 get_or-same [] i a b inside = absurd (omega arith)
 get_or-same (y ∷ ys) zero a b inside = refl
 get_or-same (y ∷ ys) (suc i) a b inside = get_or-same ys i a b (omega arith)
 
--- where the names that are added are one more
+-- the number of times after one more name is added
 pub times-added : (b : Bool) (before first before_added added one : ℕ) → before ≡ first + cond b before_added 0 → added ≡ before_added + one
     → before + cond b one 0 ≡ first + cond b added 0
 times-added true before first before_added added one e f = omega arith

@@ -1,11 +1,11 @@
--- Lists that are put one behind the other.
+-- Lists that are stored one after another.
 use Rattle.std.proofs.Common.{◌≡◌, ◌-◌, ℕ, suc, List, [], ◌∷◌, ◌++◌, drop, length, take, refl, sym, ap, ◌∙◌, inl, inr, arith, length-append, length-drop}
 use Rattle.std.proofs.lemmas.Bool.{cases_lt}
 use Rattle.std.proofs.lemmas.List.{drop-append-le, drop_at, get_or_append_left, get_or_push, length_push, map_push, take-append-le, take_all}
 use Rattle.graph.specs.declared.reversed.Range.{Range}
 use Rattle.graph.specs.inside.Ranges.{AreWithin, IsWithin, part, parts}
 
--- a list stays where names are put behind all
+-- a list stays the same when names are appended to the block
 pub part-append : (names more : List ℕ) (range : Range) → IsWithin names range → part (names ++ more) range ≡ part names range
 part-append names more range within =
     ap (take (range.to - range.from)) (drop-append-le range.from names more (omega (arith, within.from, within.to)))
@@ -17,7 +17,7 @@ parts-append names more (range ∷ ranges) within =
     ap (λ ps. ps ∷ parts (names ++ more) ranges) (part-append names more range (within 0 range (omega arith)))
     ∙ ap (λ lists. part names range ∷ lists) (parts-append names more ranges (λ k d inside. within (suc k) d (omega (arith, inside))))
 
--- the list that is put behind all
+-- the list that was appended
 pub part-last : (names more : List ℕ) (range : Range) → range.from ≡ length names → range.to ≡ length (names ++ more) → part (names ++ more) range ≡ more
 part-last names more range from to =
     ap (take (range.to - range.from)) (drop_at names more range.from (sym from))

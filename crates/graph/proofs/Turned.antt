@@ -1,4 +1,4 @@
--- Lists that are turned around, position by position.
+-- Lists are reversed, position by position.
 use Rattle.std.proofs.Common.{◌≡◌, ◌+◌, ◌<◌, ◌⊎◌, ℕ, zero, suc, Bool, true, false, not, cond, nat_eq, List, [], ◌∷◌, get_or, length, replicate, All, Contains, sym, ap, ◌∙◌, inl, inr, arith}
 use Rattle.std.proofs.lemmas.Bool.{cases_Bool, cases_eq, cases_lt, eq-eqb, ne_eqb, true≢false}
 use Rattle.std.proofs.lemmas.List.{get_or-replicate, get_or_past, length-replicate}
@@ -13,7 +13,7 @@ none_named n d = elim (cases_lt d n) [
   | inr past ↦ get_or_past (replicate n []) d [] (omega (arith, past, length-replicate {A = List ℕ} n []))
 ]
 
--- of no lists
+-- without any lists
 pub AreReversed-none : (n : ℕ) (next : ℕ → List ℕ) → AreReversed n 0 next (replicate n [])
 AreReversed-none n next = record {
   each = length-replicate {A = List ℕ} n [];
@@ -21,7 +21,7 @@ AreReversed-none n next = record {
   no_more = λ d x past. ap (times x) (none_named n d);
 }
 
--- of one list more
+-- after one more list
 pub AreReversed-more : (n m : ℕ) (next : ℕ → List ℕ) (lists more : List (List ℕ)) → AreReversed n m next lists → length more ≡ length lists
     → ((d x : ℕ) → times x (list_at more d) ≡ times x (list_at lists d) + cond (nat_eq m x) (times d (next m)) 0)
     → AreReversed n (m + 1) next more
@@ -41,16 +41,16 @@ AreReversed-more n m next lists more are each named = record {
       omega (arith, named d x, there, are.no_more d x (omega (arith, past)));
 }
 
--- what is named at a position is one of those that name
+-- the elements of a reversed list are in range
 pub named_within : (n m : ℕ) (next : ℕ → List ℕ) (lists : List (List ℕ)) (p : ℕ) → AreReversed n m next lists → All (λ u. u < m) (list_at lists p)
 named_within n m next lists p are = λ k d inside. elim (cases_lt (get_or (list_at lists p) k d) m) [
   | inl within ↦ within
   | inr past ↦ absurd (omega (arith, are.no_more p (get_or (list_at lists p) k d) past, times-contained (get_or (list_at lists p) k d) (list_at lists p) (Contains-get_or (list_at lists p) k d inside)))
 ]
 
--- ---- each has a position where the other has it the other way round
+-- ---- reversed lists, in both directions
 
--- lists that have each position where the others have it the other way round
+-- if x names d in the one family of lists, d names x in the other
 abbrev pub AreTurned : (ℕ → List ℕ) → (ℕ → List ℕ) → Type 0
 AreTurned next before = (x d : ℕ) → Contains (next x) d → Contains (before d) x
 
@@ -98,7 +98,7 @@ pub All-one : (P : ℕ → Type 0) (p : ℕ) → P p → All P (p ∷ [])
 All-one P p here zero d inside = here
 All-one P p here (suc k) d inside = absurd (omega arith)
 
--- what is reached from the list of one is reached from that one
+-- what is reached from a list of one position is reached from that position
 pub AreReached-one : (next : ℕ → List ℕ) (p : ℕ) (found : List ℕ) → AreReachedFrom next (p ∷ []) found → AreReached next p found
 AreReached-one next p found are q = elim (are q) [
   | inl (leads, one) ↦ inl (λ S in_S closed. leads S (All-one (λ x. S x ≡ true) p in_S) closed, one)

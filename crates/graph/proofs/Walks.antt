@@ -1,4 +1,4 @@
--- How marks and the list of the marked ones grow together.
+-- Marks and the list of the marked positions grow together.
 use Rattle.std.proofs.Common.{◌≡◌, ◌+◌, ◌<◌, ◌≤◌, ◌⊎◌, ℕ, suc, Bool, true, false, cond, List, [], ◌∷◌, ◌++◌, length, set, get_or, All, Contains, count_by, refl, sym, ap, ◌∙◌, subst, inl, inr, ⊎_elim, arith}
 use borrow.Author.Count.{below_more}
 use Rattle.std.proofs.lemmas.Bool.{both_ways, cases_eq, eq-eqb, ne_eqb}
@@ -60,7 +60,7 @@ AreFound-none marks unmarked = record {
 
 -- ---- some positions are found
 
--- what holds when n of the positions have been looked at
+-- the invariant after n of the positions were examined
 pub record IsFinding (marks_before : List Bool) (found_before : List ℕ) (marks : List Bool) (found positions : List ℕ) (n : ℕ) : Type 0 where
   pub are_found : AreFound marks found
   pub each : length marks ≡ length marks_before
@@ -110,7 +110,7 @@ module _ {marks_before : List Bool} {found_before : List ℕ} {marks : List Bool
 
 -- ---- the lists of the found ones are followed
 
--- what holds when the lists of the first n have been followed
+-- the invariant after the lists of the first n were followed
 pub record IsFollowing (next : ℕ → List ℕ) (marks_before marks : List Bool) (found : List ℕ) (n : ℕ) : Type 0 where
   pub are_found : AreFound marks found
   pub each : length marks ≡ length marks_before

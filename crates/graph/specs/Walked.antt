@@ -1,7 +1,7 @@
--- What a contract sees of a walk.
+-- What contracts see of a walk.
 use Rattle.std.specs.Prelude.{ℕ, List}
 
--- over how many positions it goes, and what it found last
+-- the number of positions, and what the last walk found
 pub record Walked : Type 0 where
   pub len : ℕ
   pub found : List ℕ

@@ -1,3 +1,3 @@
--- What only bodies and proofs need.
+-- Definitions that only function bodies and proofs need.
 pub mod Links
 pub mod Ranges

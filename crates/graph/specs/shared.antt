@@ -1,2 +1,2 @@
--- What bodies and proofs need, those of crates above, too.
+-- Definitions that function bodies and proofs need, also those of crates above.
 pub mod Walks

@@ -1,4 +1,4 @@
-//! Positions that name each other in lists: who names whom, and where the lists lead.
+//! Positions that name each other in lists: the reversed lists, and where the lists lead.
 #![tactic(auto)]
 
 mod naming;

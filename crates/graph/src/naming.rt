@@ -1,4 +1,4 @@
-//! Who names whom, as it is told in turn: what lists are turned around with.
+//! Builds, for each position, the list of the positions that name it. This reverses lists.
 ghost use Rattle.std.specs.Prelude.{◌≡◌, ◌<◌, ◌≤◌, ◌+◌, ◌++◌, ℕ, All, IfOk, OnErr, OnOk, cond, length, nat_eq, replicate, []};
 ghost use Rattle.graph.specs.Lists.{list_at, times};
 ghost use Rattle.graph.specs.inside.Links.{IsLinked, linked_list};
@@ -8,16 +8,16 @@ use faults::Memory;
 use std::alloc::Global;
 use std::marker::Model;
 
-/// One who names a position, and the link of the name before it at that position, counted from 1:
-/// 0, where it is the first.
+/// A position that names another, and the link of the previous name at that other position, counted
+/// from 1; 0 if this is the first.
 #[derive(Clone, Copy)]
 struct Link {
     who: u32,
     earlier: u32,
 }
 
-/// At each position those that name it so far. Each name is put as a link behind all others, and
-/// each position has the latest link of its own, counted from 1: 0, where nobody names it.
+/// For each position, those that name it so far. Each name is a link appended to all others, and
+/// each position has the number of its latest link, counted from 1; 0 if nothing names it.
 #[derive(Drop)]
 pub struct Naming {
     latest: Vec<u32>,
@@ -37,7 +37,7 @@ impl Model for Naming {
 }
 
 impl Naming {
-    /// So many positions that nobody names.
+    /// A list of `len` positions that nothing names.
     pub fn new(alloc: Global, len: u32) -> Result<Naming, Memory>
         ensures { IfOk result (λ naming. naming ≡ replicate len []) }
     {
@@ -46,7 +46,8 @@ impl Naming {
         Ok(Naming { latest, links })
     }
 
-    /// Names the position wherever it names one. For want of memory it names it nowhere.
+    /// Adds `position` to the lists of the positions that it names. If memory runs out, it adds
+    /// nothing.
     pub fn add(&mut self, position: u32, named: &[u32]) -> Result<(), Memory>
         requires { All (λ d. d < length self.old) named.now }
         ensures each { length self.new ≡ length self.old }
@@ -69,7 +70,7 @@ impl Naming {
         Ok(())
     }
 
-    /// The same lists, to be read: they stand one behind the other, in order of position.
+    /// The same lists in read-only form, stored one after another in order of position.
     pub fn turned(&self, alloc: Global) -> Result<Reversed, Memory>
         ensures { IfOk result (λ lists. lists ≡ self.now) }
     {
@@ -85,7 +86,7 @@ impl Naming {
     }
 }
 
-/// Puts behind the names those to which the links lead from the latest one, itself first.
+/// Appends the names in the links from the latest one backwards.
 fn append_linked(names: &mut Vec<u32>, links: &[Link], latest: u32) -> Result<(), Memory>
     requires linked { IsLinked links.now }
     requires latest { latest ≤ length links.now }
@@ -100,7 +101,7 @@ fn append_linked(names: &mut Vec<u32>, links: &[Link], latest: u32) -> Result<()
     Ok(())
 }
 
-/// The length in fewer bits, where they hold it; else there is no memory for so many names.
+/// The length as a `u32`; `Memory` if it doesn't fit.
 fn narrowed(len: usize) -> Result<u32, Memory>
     ensures { IfOk result (λ narrow. narrow ≡ len) }
 {

@@ -1,17 +1,17 @@
-//! Lists of positions turned around, which contracts see as a list for each position.
+//! Reversed lists of positions. Contracts see a list for each position.
 ghost use Rattle.std.specs.Prelude.{◌≡◌, ◌<◌, length};
 ghost use Rattle.graph.specs.Lists.{list_at};
 
 use std::marker::Model;
 
-/// Where a list begins among all names, and where the next name behind it stands.
+/// The start of a list in the block of all names, and its end (exclusive).
 #[derive(Clone, Copy)]
 pub(crate) struct Range {
     pub(crate) from: u32,
     pub(crate) to: u32,
 }
 
-/// At each position a list of those that name it. All names are in one block, and each list is a
+/// For each position, a list of those that name it. All names are in one block, and each list is a
 /// range of it.
 #[derive(Drop)]
 pub struct Reversed {
@@ -32,7 +32,7 @@ impl Model for Reversed {
 }
 
 impl Reversed {
-    /// Those that name the position, as often as they do.
+    /// Those that name the position, as many times as they do.
     pub fn at(&self, position: u32) -> &[u32]
         requires { position < length self.now }
         ensures { result.now ≡ list_at self.now position }

@@ -1,4 +1,4 @@
-//! Which positions the lists lead to, from one or from some.
+//! The positions that the lists lead to, from one position or from several.
 ghost use Rattle.std.specs.Prelude.{◌≡◌, ◌<◌, ◌≤◌, ◌⊎◌, ℕ, Bool, true, false, All, Contains, IfOk, length, slice_index, vec_capacity, []};
 ghost use Rattle.graph.specs.Lists.{list_at};
 ghost use Rattle.graph.specs.Marks.{has_mark};
@@ -10,8 +10,8 @@ use faults::Memory;
 use std::alloc::Global;
 use std::marker::Model;
 
-/// Marks by position, and the marked ones in the order in which they were found. Between two walks
-/// nothing is marked.
+/// Marks by position, and the marked positions in the order in which they were found. Between two
+/// walks nothing is marked.
 #[derive(Drop)]
 pub struct Walk {
     marks: Vec<bool>,
@@ -31,7 +31,7 @@ impl Model for Walk {
 }
 
 impl Walk {
-    /// Makes the room to walk over so many positions. Walks take no memory then.
+    /// Allocates the buffers to walk over `len` positions. Walks do not allocate.
     pub fn new(alloc: Global, len: u32) -> Result<Walk, Memory>
         ensures { IfOk result (λ walk. walk ≡ record { len = len; found = [] }) }
     {
@@ -40,7 +40,7 @@ impl Walk {
         Ok(Walk { marks, found })
     }
 
-    /// Finds all that the lists lead to from the position, itself included.
+    /// Finds all positions that the lists lead to from this one, itself included.
     pub fn reach(&mut self, lists: &Reversed, from: u32)
         requires each { self.old.len ≡ length lists.now }
         requires listed { (p : ℕ) → All (λ d. d < length lists.now) (list_at lists.now p) }
@@ -52,7 +52,7 @@ impl Walk {
         self.reach_all(lists, &[from]);
     }
 
-    /// Finds all that the lists lead to from any of these positions, themselves included.
+    /// Finds all positions that the lists lead to from any of these, themselves included.
     pub fn reach_all(&mut self, lists: &Reversed, from: &[u32])
         requires each { self.old.len ≡ length lists.now }
         requires listed { (p : ℕ) → All (λ d. d < length lists.now) (list_at lists.now p) }
@@ -68,7 +68,7 @@ impl Walk {
         unmark(marks, self.found.as_slice());
     }
 
-    /// What the last walk found, each once.
+    /// What the last walk found, without duplicates.
     pub fn found(&self) -> &[u32]
         ensures { result.now ≡ self.now.found }
     {
@@ -76,7 +76,7 @@ impl Walk {
     }
 }
 
-/// Marks those of the positions that have no mark, and puts them behind the found ones.
+/// Marks those of the positions that have no mark, and appends them to the found ones.
 fn find(marks: &mut [bool], found: &mut Vec<u32>, positions: &[u32])
     requires found { AreFound marks.old found.old.items }
     requires room { length marks.old ≤ vec_capacity found.old }
@@ -100,7 +100,7 @@ fn find(marks: &mut [bool], found: &mut Vec<u32>, positions: &[u32])
     }
 }
 
-/// Finds all that the lists lead to from the found ones.
+/// Finds all positions that the lists lead to from the found ones.
 fn follow(marks: &mut [bool], found: &mut Vec<u32>, lists: &Reversed)
     requires found { AreFound marks.old found.old.items }
     requires each { length marks.old ≡ length lists.now }
@@ -119,7 +119,7 @@ fn follow(marks: &mut [bool], found: &mut Vec<u32>, lists: &Reversed)
     }
 }
 
-/// Takes the marks of the found ones off, and so all.
+/// Clears the marks of the found ones, which are all marks.
 fn unmark(marks: &mut [bool], found: &[u32])
     requires { AreFound marks.old found.now }
     ensures { (p : ℕ) → has_mark marks.new p ≡ false }

@@ -1,4 +1,4 @@
--- What a bare package says of a row.
+-- Properties of the bare package of a row.
 use Rattle.std.proofs.Common.{◌≡◌, ◌<◌, ◌+◌, ◌++◌, ◌&&◌, ◌||◌, ◌⊎◌, ℕ, Bool, true, false, not, cond, List, [], ◌∷◌, All, length, map, take, get_or, position, is_some, unwrap_or, option_and_then, option_map, IfSome, Option, None, Some, Ok, refl, sym, ap, subst, ◌∙◌, arith, ext_get_or, true≢false, inl, inr}
 use Rattle.std.specs.List.{list_any, list_all, filter_map, cons_option, IsDistinct, position_from}
 use Rattle.std.specs.Option.{option_map_or}
@@ -35,7 +35,7 @@ use Rattle.listing.proofs.Members.{has, positions_of-increasing, positions_of-wi
 use Rattle.listing.proofs.Positions.{length-packages_of, package_at-packages_of}
 use Rattle.listing.proofs.Settings.{among_flip, eq_self, same_text}
 
--- ---- one number more
+-- ---- one more number
 
 more : (resolutions : List Resolution) (numbers : List ℕ) (k n : ℕ) → k < length numbers → n ≡ get_or numbers k n
     → listed_positions resolutions (take (k + 1) numbers) ≡ listed_positions resolutions (take k numbers) ++ cons_option (get_or resolutions n unlisted).position []
@@ -58,7 +58,7 @@ add_none resolutions numbers start found now k n within here at before after =
     ∙ ap (λ xs. start ++ xs) (sym (more resolutions numbers k n within here ∙ ap (λ o. listed_positions resolutions (take k numbers) ++ cons_option o []) at
     ∙ append-nil (listed_positions resolutions (take k numbers))))
 
--- ---- words and what becomes of them
+-- ---- words and their resolutions
 
 resolution_at_number : (paths : List Text) (rows : List Row) (words : List Text) (resolutions : List Resolution) (n : ℕ) → resolutions ≡ map (resolution_of_word paths rows) words
     → n < length words → get_or resolutions n unlisted ≡ resolution_of_word paths rows (get_or words n [])
@@ -72,7 +72,7 @@ position_at paths rows word = by (position_of_word paths word)
     by None = refl
     by (Some p) = refl
 
--- the positions of words by their numbers are those by the words
+-- the positions found by the words' numbers are those found by the words
 by_words : (paths words : List Text) (rows : List Row) (resolutions : List Resolution) (ns : List ℕ) → resolutions ≡ map (resolution_of_word paths rows) words
     → All (λ n. n < length words) ns → listed_positions resolutions ns ≡ filter_map (position_of_word paths) (map (λ n. get_or words n []) ns)
 by_words paths words rows resolutions [] e within = refl
@@ -91,7 +91,7 @@ met_by_words paths words rows resolutions (n ∷ ns) e within =
     let tail = met_by_words paths words rows resolutions ns e (All-tail (λ m. m < length words) n ns within) in
     λ i. head i && tail i
 
--- what a row says of a variable with dependencies
+-- what a row has for a variable with dependencies
 numbers_here : (words : List Text) (v : Variable) (text : Text) (r : Reading) → has_dependencies v ≡ true → IsReadAs words v text r
     → AreNumbersOf words (numbers_read r) (words_of text)
 numbers_here words FullName text r has h = cc
@@ -119,7 +119,7 @@ within_row ss words path row h = record {
   run = (words_here words RunDepends row.run refl (h.reads RunDepends)).within;
 }
 
--- ---- whether a position is there
+-- ---- whether there is a position
 
 some_from_by : {X : Type 0} (p : X → Bool) (n : ℕ) (ys : List X) (b : Bool) → is_some (position_from p (n + 1) ys) ≡ list_any p ys
     → is_some (cond b (Some n) (position_from p (n + 1) ys)) ≡ (b || list_any p ys)
@@ -145,7 +145,7 @@ same_name text name e = by (pkgname.fault_of text) e
 is_name : (text name : Text) → pkgname.name_of text ≡ Ok name → IsName name
 is_name text name e = ap pkgname.name_of (sym (same_name text name e)) ∙ e
 
--- the name in a row is what the path's name is set to
+-- the name in a row is the value of the path's FULLPKGNAME
 read_name : (words : List Text) (text name : Text) (r : Reading) → IsReadAs words FullName text r → name_read r ≡ Some name → pkgname.name_of text ≡ Ok name
 read_name words text name (Name n) h e = h.1 ∙ ap Ok (let same : n ≡ name = cc in same)
 read_name words text name (Numbers numbers) h e = cc
@@ -210,7 +210,7 @@ all_append f (x ∷ xs) ys = ap (λ b. f x && b) (all_append f xs ys) ∙ and_as
 
 -- ---- a package
 
--- the words of two variables
+-- the words of two variables together
 two_deps : (ss : List Setting) (path v w : Text) (a b : Option Value) → unwrap_or (value_of ss path v) [] ≡ text_of_value a → unwrap_or (value_of ss path w) [] ≡ text_of_value b
     → words_of (text_of_value a) ++ words_of (text_of_value b) ≡ dependencies_of ss path (v ∷ w ∷ [])
 two_deps ss path v w a b e f =
@@ -317,7 +317,7 @@ tree_is g ss words paths rows resolutions [] h at same each =
     ap (λ ps. packages_of g ps []) none ∙ ap (map (package_of (with_groups g) ss)) (sym none ∙ h.all)
 tree_is g ss words paths rows resolutions (m ∷ ms) h at same each = tree_by g ss words paths rows resolutions (m ∷ ms) m h at same each
 
--- such a tree has each path once, and positions of its own
+-- in such a tree no path occurs twice, and dependencies are positions of the tree
 path_here : (g : Text → Text) (ss : List Setting) (p : ℕ) → p < length (tree_of_settings (with_groups g) ss) → path_at (tree_of_settings (with_groups g) ss) p ≡ get_or (paths_of ss) p []
 path_here g ss p l =
     ap (λ (x : Package). x.path) (get_or-map (package_of (with_groups g) ss) (paths_of ss) p [] no_package (omega (arith, l, length-map (paths_of ss) (package_of (with_groups g) ss))))
@@ -366,7 +366,7 @@ is_tree is_single ss words paths rows h named =
           (λ k d l. sets (map dependency_path (dependencies_of ss (get_or (paths_of ss) k d) (lib_depends ∷ run_depends ∷ []))));
     }
 
--- ---- one bare package more
+-- ---- one more bare package
 
 pub bare_package_more : (resolutions : List Resolution) (rows : List Row) (bare_packages now : List BarePackage) (i : ℕ) (row : Row) (n : BarePackage) → row ≡ get_or rows i row → i < length rows
     → IsBarePackageOf resolutions row n → now ≡ bare_packages ++ n ∷ [] → length bare_packages ≡ i

@@ -1,4 +1,4 @@
--- Groups that are counted path by path.
+-- Groups are counted path by path.
 use Rattle.std.proofs.Common.{◌≡◌, ◌+◌, ◌++◌, ◌||◌, ℕ, suc, Bool, true, false, not, cond, List, [], ◌∷◌, Option, Some, refl, sym, ap, subst, ◌∙◌, arith, unwrap_or, if◌then◌else◌}
 use Rattle.std.specs.List.{list_any, position_or_len}
 use Rattle.std.specs.Map.{keys_of, lookup}
@@ -12,9 +12,9 @@ use Rattle.listing.specs.inside.Parts.{Grows, IsNumberOf}
 use Rattle.listing.proofs.Numbers.{grows_refl, numbers_push, numbers_stay}
 use Rattle.listing.proofs.Settings.{in_order-push, same_text}
 
--- ---- keys with one more
+-- ---- keys after one more insertion
 
--- a key that isn't the first goes among the others
+-- a key that isn't the first is inserted among the others
 insert_key-other : (k x : Text) (xs : List Text) → bytes_eq k x ≡ false → insert_key bytes_eq (x ∷ xs) k ≡ x ∷ insert_key bytes_eq xs k
 insert_key-other k x xs other = by (list_any (bytes_eq k) xs)
   where
@@ -34,7 +34,7 @@ keys-insert (e ∷ es) k v = by (bytes_eq k e.0) refl (keys-insert es k v)
     by true same rest = sym (insert_key-same k e.0 (keys_of es) same)
     by false other rest = ap (λ ks. e.0 ∷ ks) rest ∙ sym (insert_key-other k e.0 (keys_of es) other)
 
--- where a key stands once it is there
+-- the index of a key after it is inserted
 pub number-insert : (ks : List Text) (k : Text) → IsNumberOf (insert_key bytes_eq ks k) (position_or_len (bytes_eq k) ks) k
 number-insert [] k = (omega arith, refl)
 number-insert (x ∷ xs) k = by (bytes_eq k x) refl (number-insert xs k)
@@ -62,7 +62,7 @@ size-more names x group =
     let each : Text → ℕ = λ name. cond (bytes_eq name group) 1 0 in
     omega (arith, sum_by-append each names (x ∷ []), sum_by-cons each x [])
 
--- the size that is stored for a group, once x is counted
+-- the stored size of a group after x is counted
 pub sized_more : (names : List Text) (x group : Text) (o : Option ℕ) (size : ℕ) → unwrap_or o 0 ≡ size_in names group → size ≡ size_in names x + 1
     → unwrap_or (cond (bytes_eq x group) (Some size) o) 0 ≡ size_in (names ++ x ∷ []) group
 sized_more names x group o size was is = by (bytes_eq x group) refl

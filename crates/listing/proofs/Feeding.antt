@@ -1,4 +1,4 @@
--- What a hasher is fed in turn.
+-- What a hasher is fed, piece by piece.
 use Rattle.std.proofs.Common.{◌++◌, [], sym, subst, append_assoc}
 use Rattle.std.proofs.lemmas.List.{append-nil}
 use Rattle.sha2.specs.Hashers.{Holds256}

@@ -1,4 +1,4 @@
--- The shape of a dependency, by its fields.
+-- The syntax of a dependency, by its fields.
 use Rattle.std.proofs.Common.{◌≡◌, ◌≤◌, ◌+◌, ◌++◌, ◌==◌, ◌&&◌, ℕ, Bool, true, false, not, cond, nat_le, List, [], ◌∷◌, length, map, Ok, Option, None, Some, MatchOption, is_some, refl, sym, ap, ◌∙◌, arith}
 use Rattle.std.specs.List.{count_by, slice_split, onto_first}
 use Rattle.std.proofs.lemmas.Bool.Decides.{nat_tests}
@@ -27,7 +27,7 @@ first_of_fields (x ∷ xs) = by (x == colon) (slice_split (λ b. b == colon) xs)
     by false [] = (x ∷ [], [], refl)
     by false (p ∷ ps) = (x ∷ p, ps, refl)
 
--- three fields and more behind them are too many
+-- three fields and more after them are too many
 pub more_than_three : (word rest : Text) (a b c : Text) → fields_of word ≡ a ∷ b ∷ c ∷ fields_of rest → are_shaped (fields_of word) ≡ false
 more_than_three word rest a b c e =
     let r = first_of_fields rest in
@@ -41,7 +41,7 @@ three_and_more front behind word first second rest1 rest2 None e1 e2 e3 there = 
 three_and_more front behind word first second rest1 rest2 (Some halves) e1 e2 e3 there =
     more_than_three word (behind halves) first second (front halves) (e1 ∙ ap (λ fs. first ∷ fs) e2 ∙ ap (λ fs. first ∷ second ∷ fs) e3)
 
--- ---- specs that were read
+-- ---- specs that were parsed
 
 empty_by_length : (t : Text) → is_empty t ≡ (length t == 0)
 empty_by_length [] = refl

@@ -1,4 +1,4 @@
--- The first thing that is given of a list's items.
+-- The first fault found among a list's items.
 use Rattle.std.proofs.Common.{◌≡◌, ◌<◌, ◌≤◌, ◌+◌, ◌++◌, ℕ, List, [], ◌∷◌, length, take, drop, get_or, Option, None, Some, refl, sym, ap, ◌∙◌}
 use Rattle.std.proofs.lemmas.List.{take_more, take_all, take-append-drop, drop_more}
 use Rattle.faults.specs.Answers.{first_given, option_or}
@@ -15,14 +15,14 @@ pub or_none : {X : Type 0} (o : Option X) → option_or o None ≡ o
 or_none None = refl
 or_none (Some x) = refl
 
--- nothing yet, and nothing of the next
+-- none so far, and none from the next item
 pub none_given_more : {X F : Type 0} (f : X → Option F) (xs : List X) (k : ℕ) (d : X) → k < length xs → first_given f (take k xs) ≡ None
     → f (get_or xs k d) ≡ None → first_given f (take (k + 1) xs) ≡ None
 none_given_more f xs k d within before here =
     ap (first_given f) (take_more xs k d within) ∙ first_given-append f (take k xs) (get_or xs k d ∷ [])
     ∙ ap (λ o. option_or o (option_or (f (get_or xs k d)) None)) before ∙ or_none (f (get_or xs k d)) ∙ here
 
--- nothing before, and something of the next
+-- none before, and one from the next item
 pub given_at : {X F : Type 0} (f : X → Option F) (xs : List X) (k : ℕ) (d : X) (e : F) → k < length xs → first_given f (take k xs) ≡ None
     → f (get_or xs k d) ≡ Some e → first_given f xs ≡ Some e
 given_at f xs k d e within before here =

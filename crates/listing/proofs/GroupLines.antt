@@ -13,7 +13,7 @@ use Rattle.listing.specs.Tree.{Package, Tree, group_at}
 use Rattle.listing.specs.inside.Groups.{lines_of_groups, size_in}
 use Rattle.listing.proofs.Settings.{same_text}
 
--- the package is of the group
+-- Whether the package is in the group.
 abbrev is_of : Text → Package → Bool
 is_of group x = bytes_eq x.group group
 
@@ -50,7 +50,7 @@ pub lone_packages : (tree : Tree) → AreAlone tree → digest_text tree ≡ pac
 unfolding digest_text
 lone_packages tree alone = ap (λ t. packages_text tree ++ t) (no_lines tree (groups_of tree) alone) ∙ append-nil (packages_text tree)
 
--- ---- the lines by the groups' names alone
+-- ---- the lines depend only on the groups' names
 
 size_by_names : (group : Text) (tree : Tree) → size_in (map (λ (x : Package). x.group) tree) group ≡ size_of_group tree group
 size_by_names group [] = refl

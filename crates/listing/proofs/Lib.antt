@@ -18,3 +18,4 @@ mod Parsing
 mod GroupLines
 mod Feeding
 mod Counting
+pub use Rattle.pkgpath.proofs.Without

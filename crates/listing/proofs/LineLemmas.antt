@@ -1,4 +1,4 @@
--- What the parts of a line are, by places.
+-- The parts of a line, by index.
 use Rattle.std.proofs.Common.{◌≡◌, ◌<◌, ◌≤◌, ◌+◌, ◌-◌, ◌==◌, ◌&&◌, ◌||◌, ◌++◌, ◌∷◌, ℕ, Bool, true, false, not, length, take, drop, get_or, refl, sym, ap, ◌∙◌, arith, eq-eqb}
 use Rattle.std.proofs.Math.Bool.{and-false, or-true}
 use Rattle.std.specs.List.{after_first, after_last, before_last, position_or_len, suffix_len}
@@ -13,7 +13,7 @@ use Rattle.faults.proofs.FirstPlaces.{ends_before}
 use Rattle.listing.specs.Lines.{build_depends, full_name, ignore, is_blank, is_cut, key_of, lib_depends, path_text, run_depends, trimmed, value_text, variable_text, variables}
 use Rattle.listing.proofs.Places.{none_anywhere, some_there, suffix_len_is}
 
--- a text that is none of the variables
+-- a text that is not one of the variables
 pub is_no_variable : (name : Text) → bytes_eq name full_name ≡ false → bytes_eq name build_depends ≡ false → bytes_eq name lib_depends ≡ false
     → bytes_eq name run_depends ≡ false → bytes_eq name ignore ≡ false → is_among variables name ≡ false
 is_no_variable name a b c d e =
@@ -25,7 +25,7 @@ is_no_variable name a b c d e =
     let j : bytes_eq ignore name ≡ false = symm ignore name ∙ e in
     λ k. f k || (g k || (h k || (i k || (j k || false))))
 
--- ---- without blanks at the ends
+-- ---- trimming
 
 pub trimmed_is : (text : Text) (s e : ℕ) → s ≤ e → e ≤ length text
     → ((k : ℕ) → k < s → is_blank (get_or text k 0) ≡ true) → (s < length text → is_blank (get_or text s 0) ≡ false)
@@ -44,9 +44,9 @@ trimmed_is text s e se el front stop back last =
     sym (ap (λ i. take (length (drop i text) - suffix_len is_blank (drop i text)) (drop i text)) n
     ∙ ap (λ i. take i (drop s text)) shorter)
 
--- ---- a line that is cut
+-- ---- a line that is split
 
--- behind the last dot stand as many bytes as are left
+-- the number of bytes after the last dot
 after_dot : (key : Text) (j : ℕ) → j < length key → get_or key j 0 ≡ dot
     → ((k : ℕ) → j < k → k < length key → (get_or key k 0 == dot) ≡ false)
     → suffix_len (λ b. not (b == dot)) key ≡ length key - (j + 1)
@@ -56,7 +56,7 @@ after_dot key j within here last =
     (λ l. let place : length key - (length key - (j + 1)) - 1 ≡ j = omega arith in
     ap (λ i. not (get_or key i 0 == dot)) place ∙ ap not (eq-eqb _ _ here))
 
--- a line that is cut at its first `=` into a key and a value
+-- a line that is split at its first `=` into a key and a value
 module _ (line key value : Text) (cut : line ≡ key ++ equals_sign ∷ value)
     (none : has_byte equals_sign key ≡ false) where
   key_ends : position_or_len (λ b. b == equals_sign) line ≡ length key

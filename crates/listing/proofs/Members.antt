@@ -1,4 +1,4 @@
--- Sets of positions: ascending, each once.
+-- Sets of positions: ascending, without duplicates.
 use Rattle.std.proofs.Common.{◌≡◌, ◌<◌, ◌≤◌, ◌+◌, ◌++◌, ◌&&◌, ◌||◌, ◌==◌, ℕ, suc, zero, Bool, true, false, cond, List, [], ◌∷◌, All, Contains, length, map, filter, get_or, position, Option, None, Some, refl, sym, ap, subst, ◌∙◌, arith, eq-eqb, true≢false, inl, inr}
 use Rattle.std.proofs.Math.Bool.{or-true}
 use Rattle.std.specs.List.{list_any, enumerate_from, filter_map, cons_option, IsDistinct, AllByRecursion, position_from}
@@ -29,7 +29,7 @@ pub any_append : {X : Type 0} (f : X → Bool) (xs ys : List X) → list_any f (
 any_append f [] ys = refl
 any_append f (x ∷ xs) ys = ap (λ b. f x || b) (any_append f xs ys) ∙ or_assoc (f x) (list_any f xs) (list_any f ys)
 
--- ---- what a list has
+-- ---- elements of a list
 
 contains_by : (p x : ℕ) (xs : List ℕ) (b : Bool) → (x == p) ≡ b → (b || has p xs) ≡ true → (has p xs ≡ true → Contains xs p) → Contains (x ∷ xs) p
 contains_by p x xs true e h rest = (0, omega arith, eqb-true x p e)
@@ -53,7 +53,7 @@ has_same xs ys p f g =
 
 -- ---- ascending lists
 
--- ascending, from b on
+-- ascending, and not below b
 abbrev pub Rising : ℕ → List ℕ → Type 0
 Rising b [] = Unit {0}
 Rising b (x ∷ xs) = (b ≤ x) × Rising (x + 1) xs
@@ -81,7 +81,7 @@ increasing_from b (x ∷ xs) h (suc k) l =
     let e : suc (k + 1) ≡ suc k + 1 = omega arith in
     subst (λ i. get_or xs k 0 < get_or (x ∷ xs) i 0) e (increasing_from (x + 1) xs h.1 k (omega arith))
 
--- nothing below the beginning
+-- nothing is below b
 not_below : (b p : ℕ) (xs : List ℕ) → Rising b xs → p < b → has p xs ≡ false
 not_below b p [] h l = refl
 not_below b p (x ∷ xs) h l =
@@ -91,7 +91,7 @@ not_below b p (x ∷ xs) h l =
 self_eq : (x : ℕ) → (x == x) ≡ true
 self_eq x = eq-eqb x x refl
 
--- the first numbers are the same
+-- the first numbers are equal
 heads_same : (x y b : ℕ) (xs ys : List ℕ) → Rising b (x ∷ xs) → Rising b (y ∷ ys) → ((p : ℕ) → has p (x ∷ xs) ≡ has p (y ∷ ys)) → x ≡ y
 heads_same x y b xs ys hx hy same =
     elim (cases_lt x y) [
@@ -108,7 +108,7 @@ tails_by x p xs ys true e hx hy same =
     not_below (x + 1) p xs hx (omega (arith, at)) ∙ sym (not_below (x + 1) p ys hy (omega (arith, at)))
 tails_by x p xs ys false e hx hy same = same
 
--- ascending lists with the same numbers are the same
+-- ascending lists with the same elements are equal
 pub same_rising : (b : ℕ) (xs ys : List ℕ) → Rising b xs → Rising b ys → ((p : ℕ) → has p xs ≡ has p ys) → xs ≡ ys
 same_rising b [] [] hx hy same = refl
 same_rising b [] (y ∷ ys) hx hy same = absurd (true≢false (sym (ap (λ c. c || has y ys) (self_eq y)) ∙ sym (same y)))
@@ -157,7 +157,7 @@ positions_of-within listed qs = positions_below 0 (length listed) listed qs (ome
 
 -- ---- the positions of dependencies, one by one
 
--- the position is p
+-- Whether the position is p.
 abbrev pub is_at : ℕ → Option ℕ → Bool
 is_at p None = false
 is_at p (Some q) = q == p
@@ -174,7 +174,7 @@ has_cond : (p n : ℕ) (rest : List ℕ) (b : Bool) → has p (cond b (n ∷ res
 has_cond p n rest true = refl
 has_cond p n rest false = refl
 
--- a position is there where a listed path at it is among these
+-- a position is there if and only if the listed path at it is among these
 has_positions : (p n : ℕ) (listed qs : List Text) → has p (positions_from n listed qs) ≡ list_any (λ (e : ℕ × Text). is_among qs e.1 && (e.0 == p)) (enumerate_from n listed)
 has_positions p n [] qs = refl
 has_positions p n (x ∷ xs) qs =
@@ -182,7 +182,7 @@ has_positions p n (x ∷ xs) qs =
     ∙ has_cond p n (positions_from (n + 1) xs qs) (is_among qs x)
     ∙ ap (λ b. (is_among qs x && (n == p)) || b) (has_positions p (n + 1) xs qs)
 
--- ---- some of some is some of some, the other way round
+-- ---- disjunctions, rearranged
 
 or_shuffle : (a b c d : Bool) → ((a || b) || (c || d)) ≡ ((a || c) || (b || d))
 or_shuffle true b c d = refl
@@ -254,7 +254,7 @@ among_map : (f : Text → Text) (ws : List Text) (x : Text) → is_among (map f 
 among_map f [] x = refl
 among_map f (w ∷ ws) x = ap (λ b. bytes_eq (f w) x || b) (among_map f ws x)
 
--- the positions of listed paths among those of dependencies are those that the dependencies have
+-- the positions of listed paths among the dependencies' paths are those of the dependencies
 pub same_positions : (f : Text → Text) (p : ℕ) (listed ws : List Text) → IsDistinct bytes_eq listed
     → has p (positions_of listed (map f ws)) ≡ has p (filter_map (λ w. position (bytes_eq (f w)) listed) ws)
 same_positions f p listed ws once =
@@ -266,7 +266,7 @@ same_positions f p listed ws once =
     (λ w. at_position (f w) p listed once) ws
     ∙ sym (has_filter_map (λ w. position (bytes_eq (f w)) listed) p ws)
 
--- an ascending list with these positions
+-- an ascending list with these elements
 pub set_is : (f : Text → Text) (listed ws : List Text) (ps : List ℕ) → IsDistinct bytes_eq listed → IsStrictlyIncreasing ps
     → ((p : ℕ) → has p ps ≡ has p (filter_map (λ w. position (bytes_eq (f w)) listed) ws)) → ps ≡ positions_of listed (map f ws)
 set_is f listed ws ps once up same =

@@ -31,7 +31,7 @@ use Rattle.listing.proofs.Places.{from_none}
 
 -- ---- the fault of a dependency
 
--- texts that spell specs are specs
+-- texts that parse as specs are specs
 all_specs : (ts : List Text) (ss : List (List Alternative)) → map spec_of ts ≡ map Ok ss → list_all names_and_specs.is_spec ts ≡ true
 all_specs [] ss e = refl
 all_specs (t ∷ ts) [] e = cc
@@ -48,7 +48,7 @@ word_fault_by n w a b c shaped specs path = λ i. first_that_applies ((not (shap
 pub no_word_fault : (n : ℕ) (w : Text) (d : Dependency) → IsRead w d → word_fault names_and_specs n w ≡ None
 no_word_fault n w d h = word_fault_by n w true true false h.shaped (all_specs (specs_of w) d.specs.items h.specs) (ap is_err h.spelled)
 
--- the fault of a dependency whose specs are refused
+-- the fault of a dependency with a malformed spec
 pub specs_fault : (line : ℕ) (word : Text) (fields : Fields) (e : ListingFault) → AreFieldsOf word fields
     → (e ≡ Memory) ⊎ ((list_all names_and_specs.is_spec (specs_from fields.spec.now fields.bounds.now) ≡ false) × (e ≡ BadLine line))
     → (e ≡ Memory) ⊎ (word_fault names_and_specs line word ≡ Some e)
@@ -56,7 +56,7 @@ specs_fault line word fields e h (inl m) = inl m
 specs_fault line word fields e h (inr bad) =
     inr (word_fault_by line word true false (is_err (path_of (dependency_path_text word))) h.shaped (ap (list_all names_and_specs.is_spec) h.specs ∙ bad.0) refl ∙ ap Some (sym bad.1))
 
--- the fault of a dependency whose path is refused
+-- the fault of a dependency with a malformed path
 pub path_fault : (line : ℕ) (word : Text) (fields : Fields) (specs : List (List Alternative)) (e : ListingFault) → AreFieldsOf word fields
     → map spec_of (specs_from fields.spec.now fields.bounds.now) ≡ map Ok specs
     → (e ≡ Memory) ⊎ ((is_err (path_of fields.path.now) ≡ true) × (e ≡ BadPath line)) → (e ≡ Memory) ⊎ (word_fault names_and_specs line word ≡ Some e)
@@ -69,7 +69,7 @@ pub none_from_is_some : {X : Type 0} (o : Option X) → false ≡ is_some o → 
 none_from_is_some None e = refl
 none_from_is_some (Some x) e = cc
 
--- ---- a dependency that was read before
+-- ---- a dependency that was parsed before
 
 entry_at : (es : List Entry) (word : Text) (n : ℕ) (d : Entry) → position (bytes_eq word) (keys_of es) ≡ Some n
     → (n < length es) × (word ≡ (get_or es n d).0)
@@ -100,7 +100,7 @@ prefix_le p (x ∷ xs) = by (p x) (prefix_len p xs) (prefix_le p xs)
     by true n h = omega arith
     by false n h = omega arith
 
--- a key that isn't there goes behind the others
+-- a key that isn't there is appended
 pub place_of_new : {X : Type 0} (p : X → Bool) (xs : List X) → None ≡ position p xs → position_or_len p xs ≡ length xs
 place_of_new p xs e =
     let far = ltb-false _ _ (from_none (nat_lt (position_or_len p xs) (length xs)) (position_or_len p xs) (sym e)) in
@@ -127,7 +127,7 @@ entries_good es new e is good read = subst (All IsReadEntry) (sym is) (All-push 
 
 -- ---- the numbers of a value's dependencies
 
--- what was a number stays that number
+-- a number keeps its word
 number_stays : (old new : List Text) (n : ℕ) → Grows old new → n < length old → (n < length new) × (get_or new n [] ≡ get_or old n [])
 number_stays old new n g within = (
   omega (arith, ap length g.is, length-append old g.more),
@@ -219,9 +219,9 @@ all_read line value old new numbers k so_far all = (
   subst (AreNumbersOf new numbers) (take_all k (words_of value) all) so_far.are,
 )
 
--- ---- what becomes of what was read
+-- ---- the resolution of parsed dependencies
 
--- the specs that were read match what the texts of specs match
+-- the parsed specs match exactly what the texts match
 same_matches : (ts : List Text) (ss : List (List Alternative)) (name : Text) → map spec_of ts ≡ map Ok ss
     → list_all (λ s. matches s name) ss ≡ list_all (λ t. names_and_specs.matches t name) ts
 same_matches [] [] name e = refl

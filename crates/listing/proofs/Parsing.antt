@@ -36,7 +36,7 @@ as_list : (o : Option Setting) → cons_option o [] ≡ option_to_list o
 as_list None = refl
 as_list (Some s) = refl
 
--- what one more line sets
+-- the settings after one more line
 pub settings_more : (text : Text) (k n : ℕ) (line : Text) → k < length (pieces text) → line ≡ get_or (pieces text) k line → n ≡ k
     → settings_of (take (k + 1) (lines_of text)) ≡ settings_of (take k (lines_of text)) ++ option_to_list (setting_of (n + 1, line))
 settings_more text k n line within here same =
@@ -62,7 +62,7 @@ number_at text k within =
 numbers_size : (text : Text) → length (numbers text) ≡ length (pieces text)
 numbers_size text = length-range_with_len 0 (length (lines_of text)) ∙ lines_size text
 
--- the first lines have no fault, and the table stands for what they set
+-- the first k lines have no fault, and the table represents what they set
 pub record ParsedSoFar (text : Text) (table : Table) (k : ℕ) : Type 0 where
   pub faultless : first_given (fault_at names_and_specs (lines_of text)) (take k (numbers text)) ≡ None
   pub stands : Stands table (settings_of (take k (lines_of text)))
@@ -78,11 +78,11 @@ parsed_more text table now k n line within here same so_far h = record {
   stands = subst (Stands now) (sym (settings_more text k n line within here same)) h.1;
 }
 
--- the lines from the k-th on are those of what is left
+-- the remaining lines are those from the k-th on
 abbrev pub AreLeft : Text → ℕ → List Text → Type 0
 AreLeft text k left = drop k (pieces text) ≡ left
 
--- a text has at most one line more than bytes
+-- a text has at most one more line than bytes
 pub lines_within : (text : Text) → length (pieces text) ≤ length text + 1
 lines_within text =
     omega (arith, length-slice_split (λ b. b == line_feed) text, count_by-le-length (λ b. b == line_feed) text)

@@ -1,4 +1,4 @@
--- Where in a text a test first or last passes.
+-- Indexes in a text where a test first or last passes.
 use Rattle.std.proofs.Common.{◌≡◌, ◌<◌, ◌≤◌, ◌-◌, ℕ, suc, zero, Bool, true, false, cond, ◌||◌, nat_lt, List, [], ◌∷◌, length, take, drop, reverse, position, get_or, None, Some, refl, sym, ap, ◌∙◌, arith}
 use Rattle.std.proofs.Math.Bool.{or-true}
 use Rattle.std.specs.List.{suffix_len, position_or_len, before_first, list_any}
@@ -6,7 +6,7 @@ use Rattle.std.proofs.lemmas.Bool.{ltb-true, ltb-false}
 use Rattle.std.proofs.lemmas.List.{drop_all, get_or-reverse, length-reverse, take_all, take_rest}
 use Rattle.std.proofs.lemmas.List.Sums.{prefix_len_is}
 
--- the last n pass, and the one before, if there is one, does not
+-- the last n elements pass, and the one before them, if there is one, does not
 pub suffix_len_is : (p : ℕ → Bool) (xs : List ℕ) (n : ℕ) → n ≤ length xs
     → ((k : ℕ) → length xs - n ≤ k → k < length xs → p (get_or xs k 0) ≡ true)
     → (n < length xs → p (get_or xs (length xs - n - 1) 0) ≡ false) → suffix_len p xs ≡ n
@@ -17,7 +17,7 @@ suffix_len_is p xs n le back stop =
     let same : length xs - 1 - n ≡ length xs - n - 1 = omega arith in
     ap p (get_or-reverse xs n 0 within) ∙ ap (λ i. p (get_or xs i 0)) same ∙ stop within)
 
--- what a position says
+-- what a found position says
 pub from_some : (b : Bool) (n i : ℕ) → cond b (Some n) None ≡ Some i → (b ≡ true) × (n ≡ i)
 from_some true n i e = (refl, cc)
 from_some false n i e = cc
@@ -26,20 +26,20 @@ pub from_none : (b : Bool) (n : ℕ) → cond b (Some n) None ≡ None → b ≡
 from_none true n e = cc
 from_none false n e = refl
 
--- where a test first passes: the place is within, and it's how many don't pass before it
+-- the index at which a test first passes is in range, and is the number of elements before it
 pub place_is : (p : ℕ → Bool) (xs : List ℕ) (i : ℕ) → position p xs ≡ Some i → (position_or_len p xs ≡ i) × (i < length xs)
 place_is p xs i e =
     let h = from_some (nat_lt (position_or_len p xs) (length xs)) (position_or_len p xs) i e in
     (h.1, omega (arith, ltb-true _ _ h.0, h.1))
 
--- what stands before the first that passes, or all
+-- the elements before the first that passes, or all of them
 pub before_first_at : (p : ℕ → Bool) (xs : List ℕ) (i : ℕ) → position p xs ≡ Some i → before_first p xs ≡ take i xs
 before_first_at p xs i e = ap (λ n. take n xs) (place_is p xs i e).0
 
 pub before_first_none : (p : ℕ → Bool) (xs : List ℕ) → position p xs ≡ None → before_first p xs ≡ xs
 before_first_none p xs e = take_all (position_or_len p xs) xs (ltb-false _ _ (from_none (nat_lt (position_or_len p xs) (length xs)) (position_or_len p xs) e))
 
--- what stands from the first that passes on
+-- the elements from the first that passes on
 pub from_place : (p : ℕ → Bool) (xs : List ℕ) (i : ℕ) → position p xs ≡ Some i → take (length xs - i) (drop i xs) ≡ drop (position_or_len p xs) xs
 from_place p xs i e = take_rest xs i ∙ ap (λ n. drop n xs) (sym (place_is p xs i e).0)
 

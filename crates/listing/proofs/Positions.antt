@@ -1,4 +1,4 @@
--- What a tree says of its packages by position.
+-- A tree's packages by position.
 use Rattle.std.proofs.Common.{◌≡◌, ◌<◌, ℕ, suc, zero, not, cond, List, [], ◌∷◌, length, position, nat_lt, Some, None, ◌+◌, get_or, subst, sym, ap, refl, ◌∙◌, arith, map}
 use Rattle.std.specs.List.{prefix_len}
 use Rattle.std.specs.Str.{bytes_eq}
@@ -22,17 +22,17 @@ package_at-packages_of g (p ∷ ps) [] i n e l h = absurd (omega arith)
 package_at-packages_of g (p ∷ ps) (m ∷ ns) zero n e l h = ap (package_of_bare g p) (sym h)
 package_at-packages_of g (p ∷ ps) (m ∷ ns) (suc i) n e l h = package_at-packages_of g ps ns i n (omega arith) (omega arith) h
 
--- a position of the tree is one of the paths and one of the bare packages
+-- a position of the tree is an index of the paths and of the bare packages
 pub within_bare_packages : (g : Text → Text) (tree : Tree) (ps : List Text) (ns : List BarePackage) (i : ℕ) → packages_of g ps ns ≡ tree → length ns ≡ length ps → i < length tree → i < length ns
 within_bare_packages g tree ps ns i seen same within = omega (arith, length-packages_of g ps ns same, ap length seen)
 
--- the package at a position is that of the path and the bare package there
+-- the package at a position is made of the path and the bare package there
 pub bare_package_at : (g : Text → Text) (tree : Tree) (ps : List Text) (ns : List BarePackage) (i : ℕ) (n : BarePackage) → packages_of g ps ns ≡ tree → length ns ≡ length ps → i < length tree
     → n ≡ get_or ns i n → package_of_bare g (get_or ps i []) n ≡ package_at tree i
 bare_package_at g tree ps ns i n seen same within here =
     sym (package_at-packages_of g ps ns i n same (omega (arith, within_bare_packages g tree ps ns i seen same within)) here) ∙ ap (λ t. package_at t i) seen
 
--- the sets of a package have positions of the tree
+-- the dependencies of a package are positions of the tree
 pub build_positions : (tree : Tree) (i : ℕ) (x : Package) → x ≡ package_at tree i → i < length tree → IsTree tree → ArePositions tree x.build
 build_positions tree i x here within is_tree =
     subst (λ (y : Package). ArePositions tree y.build) (sym here) (All-get_or (λ y. ArePositions tree y.build) tree i no_package within is_tree.build)
@@ -55,7 +55,7 @@ pub path_there : (g : Text → Text) (tree : Tree) (ps : List Text) (ns : List B
 path_there g tree ps ns i x seen same within here =
     path_at-packages_of g ps ns i x same (within_paths g tree ps ns i seen same within) here ∙ ap (λ t. path_at t i) seen
 
--- where a path stands among the packages
+-- the position of a path among the packages
 places-packages_of : (g : Text → Text) (ps : List Text) (ns : List BarePackage) (q : Text) → length ns ≡ length ps
     → prefix_len (λ (x : Package). not (bytes_eq x.path q)) (packages_of g ps ns) ≡ prefix_len (λ p. not (bytes_eq q p)) ps
 places-packages_of g [] ns q e = refl

@@ -20,7 +20,7 @@ among_variables LibDepends = refl
 among_variables RunDepends = refl
 among_variables Ignore = refl
 
--- a line that sets a variable has the fault of its path and what comes after
+-- the fault of a line that sets a variable is that of its path, or of what comes after
 cut_line_fault : (earlier : List Setting) (n : ℕ) (line : Text) (v : Variable) → is_skipped line ≡ false → is_cut line ≡ true → variable_text line ≡ name_of_variable v
     → line_fault names_and_specs earlier (n, line) ≡ path_line_fault names_and_specs earlier (n, line) (path_of (path_text line))
 cut_line_fault earlier n line v skipped cut named =

@@ -1,4 +1,4 @@
--- Rows that stand for what lines set, and one more setting.
+-- Rows that represent what lines set, and one more setting.
 use Rattle.std.proofs.Common.{◌≡◌, ◌<◌, ◌≤◌, ◌+◌, ◌++◌, ◌&&◌, ◌||◌, ◌⊎◌, ℕ, suc, zero, Bool, true, false, not, nat_le, List, [], ◌∷◌, length, set, option_and_then, option_map, Option, None, Some, Ok, Bor, IfSome, is_some, ◌≢◌, refl, sym, ap, subst, ◌∙◌, arith, if◌then◌else◌, get_or, inl, inr}
 use Rattle.std.proofs.Math.Bool.{and-false, or-true}
 use Rattle.std.specs.List.{list_any, IsDistinct}
@@ -56,7 +56,7 @@ value_in-with_value RunDepends RunDepends row x = refl
 value_in-with_value Ignore Ignore row x = refl
 value_in-with_value v w row x = sym (or_none (value_in w row))
 
--- variables of one name are the same
+-- variables with equal names are equal
 same_variable : (v w : Variable) → bytes_eq (name_of_variable v) (name_of_variable w) ≡ true → v ≡ w
 same_variable FullName FullName e = refl
 same_variable BuildDepends BuildDepends e = refl
@@ -80,7 +80,7 @@ if_some_or P None true x before new = new refl
 if_some_or P None false x before new = tt
 if_some_or P (Some y) b x before new = before
 
--- the value of the variable was read as it has to be
+-- The variable's value was parsed correctly.
 abbrev pub IsReadValue : List Text → Variable → Value → Type 0
 IsReadValue words v x = IsReadAs words v x.text.now x.reading
 
@@ -108,7 +108,7 @@ reads_kept words more row grows before w =
 line_kept : (o : Option ℕ) (n : ℕ) (more : Option ℕ) → o ≡ Some n → option_or o more ≡ Some n
 line_kept o n more e = ap (λ x. option_or x more) e
 
--- a row of another path stays
+-- the row of another path stays the same
 row_kept : (ss : List Setting) (words more : List Text) (s : Setting) (path : Text) (row : Row) → bytes_eq s.path path ≡ false → Grows words more
     → IsRowOf ss words path row → IsRowOf (ss ++ s ∷ []) more path row
 row_kept ss words more s path row other grows h = record {
@@ -134,7 +134,7 @@ spelled-with_value row LibDepends x = refl
 spelled-with_value row RunDepends x = refl
 spelled-with_value row Ignore x = refl
 
--- the row of the path takes the value
+-- the path's row gets the value
 row_set : (ss : List Setting) (words more : List Text) (line : ℕ) (p path : Text) (v : Variable) (x : Value) (row : Row) → bytes_eq p path ≡ true → Grows words more
     → IsReadValue more v x
     → IsRowOf ss words path row → IsRowOf (ss ++ setting line p v x.text.now ∷ []) more path (with_value row v x)
@@ -168,7 +168,7 @@ row_first ss more line p t v x new spells read = record {
 
 -- ---- all rows
 
--- another path than the one at j
+-- another path than the one at index j
 other_path : (ps : List Text) (q : Text) (j k : ℕ) → IsDistinct bytes_eq ps → j < length ps → bytes_eq q (get_or ps j []) ≡ true → k < length ps → k ≢ j
     → bytes_eq q (get_or ps k []) ≡ false
 other_path ps q j k once inj e ink apart =
@@ -178,13 +178,13 @@ other_path ps q j k once inj e ink apart =
       | inr behind ↦ eq_flip (get_or ps j []) (get_or ps k []) ∙ apart_from_distinct bytes_eq ps k j [] once (omega arith) inj
     ]
 
--- the path at a place is among them
+-- the path at an index is among them
 pub listed_at : (ps : List Text) (p : Text) (k : ℕ) → k < length ps → bytes_eq p (get_or ps k []) ≡ true → list_any (bytes_eq p) ps ≡ true
 listed_at [] p k within same = absurd (omega arith)
 listed_at (q ∷ ps) p zero within same = ap (λ b. b || list_any (bytes_eq p) ps) same
 listed_at (q ∷ ps) p (suc k) within same = ap (λ b. bytes_eq p q || b) (listed_at ps p k (omega arith) same) ∙ or-true (bytes_eq p q)
 
--- the row of a path that is there takes a value
+-- an existing path's row gets a value
 pub rows_set : (ss : List Setting) (words more : List Text) (paths : List Text) (rows : List Row) (line : ℕ) (p : Text) (v : Variable) (x : Value) (i : ℕ) (d : Row)
     → AreRowsOf ss words paths rows → (i < length paths) × (bytes_eq p (get_or paths i []) ≡ true) → Grows words more
     → IsReadValue more v x
@@ -267,7 +267,7 @@ pub no_fault : (earlier : List Setting) (s : Setting) → is_one_too_many earlie
 no_fault earlier s few good anew =
     fault_few earlier s few ∙ (λ i. option_or (good i) (first_that_applies ((anew i, TwiceSet s.line) ∷ [])))
 
--- ---- whether there is one path too many
+-- ---- whether there are too many paths
 
 pub one_too_many : (ss : List Setting) (words paths : List Text) (rows : List Row) (s : Setting) → AreRowsOf ss words paths rows
     → list_any (bytes_eq s.path) paths ≡ false → most_paths ≤ length paths → is_one_too_many ss s ≡ true
@@ -297,7 +297,7 @@ first_given-same f g (x ∷ xs) (y ∷ ys) same h =
     let tail = first_given-same f g xs ys (omega arith) (λ k d e l. h (suc k) d e (omega arith)) in
     λ i. option_or (head i) (tail i)
 
--- a name that is set was read as one
+-- a name that is set was parsed as a name
 read_as_name : (words : List Text) (text : Text) (r : Reading) → IsReadAs words FullName text r → true ≡ is_some (name_read r)
 read_as_name words text (Name name) h = refl
 read_as_name words text (Numbers numbers) h = sym h.0
@@ -322,7 +322,7 @@ nameless_by_rows ss words paths rows h =
     sym (λ i. if has i then None else option_map NoName (line i)) ∙ ap (path_fault named ss) same)
     ∙ ap (first_given (path_fault named ss)) h.all ∙ sym (nameless_by_paths ss)
 
--- ---- whether the variable is set to another value
+-- ---- whether the variable is set to a different value
 
 pub anew_there : (ss : List Setting) (words paths : List Text) (rows : List Row) (p : Text) (i : ℕ) (line : ℕ) (v : Variable) (text : Text) (d : Row) (b : Bool)
     → AreRowsOf ss words paths rows → (i < length paths) × (bytes_eq p (get_or paths i []) ≡ true) → is_another text (text_in v (get_or rows i d)) ≡ b

@@ -1,4 +1,4 @@
--- What one more setting changes in what lines set.
+-- The effect of one more setting on what lines set.
 use Rattle.std.proofs.Common.{◌≡◌, ◌++◌, ◌&&◌, ◌||◌, ℕ, Bool, true, false, not, cond, List, [], ◌∷◌, map, filter, find, is_some, option_map, Option, None, Some, refl, sym, ap, ◌∙◌, if◌then◌else◌}
 use Rattle.std.specs.List.{list_any}
 use Rattle.std.specs.Str.{bytes_eq}
@@ -26,7 +26,7 @@ eq_self a = nat_list_eq_equiv.refl a
 pub eq_flip : (a b : Text) → bytes_eq a b ≡ bytes_eq b a
 eq_flip a b = nat_list_eq_equiv.symm a b
 
--- whether a text is among others, said both ways
+-- whether a text is among others, in both notations
 pub among_flip : (ts : List Text) (t : Text) → is_among ts t ≡ list_any (bytes_eq t) ts
 among_flip [] t = refl
 among_flip (u ∷ us) t =
@@ -39,7 +39,7 @@ among_flip (u ∷ us) t =
 abbrev others : Text → List Text → List Text
 others y ts = filter (λ u. not (bytes_eq y u)) ts
 
--- a text that isn't y is among the others than y where it is among all
+-- if a text differs from y, it is among the texts other than y if and only if it is among all
 any_others_by : (x y z : Text) (zs : List Text) (b : Bool) → bytes_eq y z ≡ b → bytes_eq x y ≡ false
     → list_any (bytes_eq x) (others y zs) ≡ list_any (bytes_eq x) zs
     → list_any (bytes_eq x) (cond (not b) (z ∷ others y zs) (others y zs)) ≡ (bytes_eq x z || list_any (bytes_eq x) zs)
@@ -51,7 +51,7 @@ any_others : (x y : Text) (zs : List Text) → bytes_eq x y ≡ false → list_a
 any_others x y [] apart = refl
 any_others x y (z ∷ zs) apart = any_others_by x y z zs (bytes_eq y z) refl apart (any_others x y zs apart)
 
--- one more text, which goes last where it is new
+-- one more text, which is appended if it is new
 push_by : (x y : Text) (zs : List Text) (a b : Bool) → bytes_eq x y ≡ a → list_any (bytes_eq x) zs ≡ b
     → (y ∷ others y (if b then zs else zs ++ x ∷ [])) ≡ insert_key bytes_eq (y ∷ others y zs) x
 push_by x y zs true true e h = ap (λ c. if (c || list_any (bytes_eq x) (others y zs)) then y ∷ others y zs else (y ∷ others y zs) ++ x ∷ []) (sym e)
@@ -115,7 +115,7 @@ pub value_of-push : (ss : List Setting) (s : Setting) (path variable : Text)
 value_of-push ss s path variable =
     ap (option_map (λ (x : Setting). x.value)) (find-push (sets path variable) ss s) ∙ map_or (λ (x : Setting). x.value) (find (sets path variable) ss) (sets path variable s) s
 
--- where a path first stands
+-- the first line of a path
 abbrev pub line_of : List Setting → Text → Option ℕ
 line_of ss path = option_map (λ s. s.line) (find (λ s. bytes_eq s.path path) ss)
 

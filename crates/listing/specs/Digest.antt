@@ -6,16 +6,16 @@ use Rattle.faults.specs.Bytes.{Text, line_feed}
 use Rattle.faults.specs.Pieces.{in_order_of_appearance}
 use Rattle.listing.specs.Tree.{Package, Tree, path_at}
 
--- the text and the byte that ends a line
+-- the text, ended by LF
 abbrev pub line : Text → Text
 line text = text ++ line_feed ∷ []
 
--- a line for each position: the word, then the path there
+-- a line for each position: the word, then the path at the position
 abbrev pub path_lines : Tree → Text → List ℕ → Text
 path_lines tree word positions = flat_map (λ p. line (word ++ path_at tree p)) positions
 
--- the path, the name, a line if it is marked, then what its build needs and what it needs once
--- installed
+-- the path, the name, a line if the package is marked, then the build dependencies and the run
+-- dependencies
 abbrev pub package_lines : Tree → Package → Text
 package_lines tree x =
     line (codes "P " ++ x.path)
@@ -24,15 +24,15 @@ package_lines tree x =
     ++ path_lines tree (codes "B ") x.build
     ++ path_lines tree (codes "R ") x.run
 
--- the groups, in the order of their least positions
+-- the groups, in the order of their lowest positions
 abbrev pub groups_of : Tree → List Text
 groups_of tree = in_order_of_appearance (map (λ x. x.group) tree)
 
--- how many packages are of the group
+-- the number of packages in the group
 abbrev pub size_of_group : Tree → Text → ℕ
 size_of_group tree group = count_by (λ x. bytes_eq x.group group) tree
 
--- a line with the group's path, where two or more packages are of it
+-- a line with the group's path, if the group has two or more packages
 abbrev pub group_line : Tree → Text → Text
 group_line tree group =
     if nat_le 2 (size_of_group tree group) then line (codes "G " ++ group) else []
@@ -41,6 +41,7 @@ group_line tree group =
 abbrev pub packages_text : Tree → Text
 packages_text tree = flat_map (package_lines tree) tree
 
--- the lines of each package, and then a line for each group of two or more, in order of position
+-- the lines of each package in order of position, then a line for each group of two or more, in the
+-- order of lowest positions
 unfoldable pub digest_text : Tree → Text
 digest_text tree = packages_text tree ++ flat_map (group_line tree) (groups_of tree)

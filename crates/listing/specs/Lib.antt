@@ -7,3 +7,4 @@ pub mod Refusals
 pub mod Digest
 pub mod Laws
 pub mod inside
+pub use Rattle.pkgpath.specs.PkgPath

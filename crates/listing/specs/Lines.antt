@@ -9,20 +9,20 @@ use Rattle.pkgpath.specs.PkgPath.{path_of}
 abbrev pub Line : Type 0
 Line = ℕ × Text
 
--- the pieces between LFs, numbered; where a text ends with LF the last piece is an empty line,
+-- the pieces between LFs, numbered; if the text ends with LF, the last piece is an empty line,
 -- which is skipped
 abbrev pub lines_of : Text → List Line
 lines_of text = enumerate_from 1 (pieces_at line_feed text)
 
--- the line is empty or begins with `===>`, and says nothing
+-- Whether the line is empty or begins with `===>`; such a line is skipped.
 abbrev pub is_skipped : Text → Bool
 is_skipped line = is_empty line || begins_with (codes "===>") line
 
--- what stands before the first `=`, or all where there is none
+-- the text before the first `=`, or the whole line if there is none
 abbrev pub key_of : Text → Text
 key_of line = before_first (λ b. b == equals_sign) line
 
--- the line has a `=`, and before it a dot
+-- Whether the line has a `=`, and a dot before it.
 abbrev pub is_cut : Text → Bool
 is_cut line = has_byte equals_sign line && has_byte dot (key_of line)
 
@@ -30,60 +30,60 @@ is_cut line = has_byte equals_sign line && has_byte dot (key_of line)
 abbrev pub path_text : Text → Text
 path_text line = before_last (λ b. b == dot) (key_of line)
 
--- the variable behind the key's last dot
+-- the variable after the key's last dot
 abbrev pub variable_text : Text → Text
 variable_text line = after_last (λ b. b == dot) (key_of line)
 
--- a space or a tab
+-- Whether the byte is a space or a tab.
 abbrev pub is_blank : ℕ → Bool
 is_blank b = is_one_of (blank ∷ tab ∷ []) b
 
--- the text without the spaces and tabs at both ends
+-- the text without leading and trailing spaces and tabs
 abbrev pub trimmed : Text → Text
 trimmed text =
     let rest = drop (prefix_len is_blank text) text in
     take (length rest - suffix_len is_blank rest) rest
 
--- what stands behind the first `=`, without the spaces and tabs at its ends
+-- the text after the first `=`, without leading and trailing spaces and tabs
 abbrev pub value_text : Text → Text
 value_text line = trimmed (after_first (λ b. b == equals_sign) line)
 
--- the variable that gives a package's name
+-- the variable with a package's name
 abbrev pub full_name : Text
 full_name = codes "FULLPKGNAME"
 
--- the variable that gives what a package's build needs
+-- the variable with the build dependencies
 abbrev pub build_depends : Text
 build_depends = codes "BUILD_DEPENDS"
 
--- the variable that gives what both the build and the installed package need
+-- the variable with dependencies of both the build and the installed package
 abbrev pub lib_depends : Text
 lib_depends = codes "LIB_DEPENDS"
 
--- the variable that gives what the installed package needs
+-- the variable with the run dependencies
 abbrev pub run_depends : Text
 run_depends = codes "RUN_DEPENDS"
 
--- the variable that marks a package where it isn't empty
+-- the variable that marks a package if it isn't empty
 abbrev pub ignore : Text
 ignore = codes "IGNORE"
 
--- the variables that are read
+-- the variables that are read; all others are skipped
 abbrev pub variables : List Text
 variables = full_name ∷ build_depends ∷ lib_depends ∷ run_depends ∷ ignore ∷ []
 
--- the line sets a variable that is read
+-- Whether the line sets a variable that is read.
 abbrev pub is_read : Text → Bool
 is_read line = not (is_skipped line) && is_cut line && is_among variables (variable_text line)
 
--- what a line sets
+-- a variable of a path, as set by a line
 pub record Setting : Type 0 where
   pub line : ℕ
   pub path : Text
   pub variable : Text
   pub value : Text
 
--- what the line sets, where its path could be read
+-- the setting of the line, if its path is valid
 abbrev pub setting_from : {F : Type 0} → Line → Result Text F → Option Setting
 setting_from line (Ok path) = Some (record {
   line = line.0;
@@ -93,10 +93,10 @@ setting_from line (Ok path) = Some (record {
 })
 setting_from line (Err e) = None
 
--- what the line sets, where it is one that is read
+-- the setting of the line, if its variable is read and its path is valid
 abbrev pub setting_of : Line → Option Setting
 setting_of line = if is_read line.1 then setting_from line (path_of (path_text line.1)) else None
 
--- all that the lines set, in their order
+-- the settings of all lines, in their order
 abbrev pub settings_of : List Line → List Setting
 settings_of lines = filter_map setting_of lines

@@ -10,8 +10,8 @@ use crate::table::{Reading, Row, Value};
 use pkgname::PkgName;
 use std::alloc::Global;
 
-/// A package without its path. Its dependencies stand as their positions in the tree: sets,
-/// ascending, each once.
+/// A package without its path. Dependencies are stored as positions in the tree, ascending and
+/// without duplicates.
 #[derive(Drop)]
 pub struct BarePackage {
     pub name: PkgName,
@@ -21,7 +21,7 @@ pub struct BarePackage {
 }
 
 impl BarePackage {
-    /// The package of a row, by what has become of each dependency, by its number.
+    /// The package of a row, given the resolution of each dependency, by number.
     pub fn of_row(
         alloc: Global,
         row: &Row<'_>,
@@ -46,7 +46,7 @@ impl BarePackage {
     }
 }
 
-/// The packages of the rows, in turn, by what has become of each dependency, by its number.
+/// The packages of the rows, in order, given the resolution of each dependency, by number.
 pub fn bare_packages_of(
     alloc: Global,
     rows: &[Row<'_>],
@@ -76,7 +76,7 @@ fn is_marked(row: &Row<'_>, resolutions: &[Resolution]) -> bool
     !text_of(&row.ignore).is_empty() || !is_complete
 }
 
-/// What a variable is set to, or the empty text where it isn't set.
+/// The value of a variable, or the empty text if it isn't set.
 fn text_of<'a>(value: &Option<Value<'a>>) -> &'a [u8]
     ensures { result.now ≡ text_of_value value.now }
 {
@@ -86,7 +86,8 @@ fn text_of<'a>(value: &Option<Value<'a>>) -> &'a [u8]
     }
 }
 
-/// The numbers of the dependencies that the value was read as, or none.
+/// The numbers of the dependencies in the value; empty if it is not set or not a list of
+/// dependencies.
 fn numbers_of<'v>(value: &'v Option<Value<'_>>) -> &'v [u32]
     ensures { result.now ≡ numbers_of_value value.entry.now }
 {
@@ -101,7 +102,7 @@ fn numbers_of<'v>(value: &'v Option<Value<'_>>) -> &'v [u32]
     }
 }
 
-/// Whether each is met.
+/// Whether all of these are met.
 fn are_met(numbers: &[u32], resolutions: &[Resolution]) -> bool
     requires { All (λ n. n < length resolutions.now) numbers.now }
     ensures { result ≡ are_met resolutions.now numbers.now }
@@ -111,7 +112,7 @@ fn are_met(numbers: &[u32], resolutions: &[Resolution]) -> bool
         .all(|number| resolutions[*number as usize].is_met)
 }
 
-/// The positions that these have, ascending, each once.
+/// The positions of these dependencies, ascending and without duplicates.
 fn positions_of(
     alloc: Global,
     first: &[u32],
@@ -134,7 +135,7 @@ fn positions_of(
     Ok(found)
 }
 
-/// Appends the positions that these have.
+/// Appends the positions of these dependencies.
 fn add_positions(
     found: &mut Vec<u32>,
     numbers: &[u32],

@@ -27,10 +27,11 @@ use pkgspec::{Spec, SpecFault};
 use std::alloc::Global;
 use std::marker::Model;
 
-/// The most dependencies in one value.
+/// The maximum number of dependencies in one value.
 const MOST_DEPENDENCIES: usize = 512;
 
-/// How many bytes of a value a word mostly has at least: room is made for a value's words at once.
+/// Expected minimum number of bytes per word of a value. Used to allocate room for all words of a
+/// value at once.
 const ROOM_FOR_WORD: usize = 16;
 
 /// Whether the text has a slash.
@@ -40,8 +41,8 @@ fn has_slash(text: &[u8]) -> bool
     text.contains(&b'/')
 }
 
-/// The field before the path, which is empty where none stands there, and the field with the path:
-/// one field has a slash, and at most one stands before it and one behind it.
+/// The field before the path, or the empty text, and the field with the path. Exactly one field
+/// must have a slash, with at most one field before it and at most one after it.
 fn path_field(word: &[u8]) -> Option<(&[u8], &[u8])>
     ensures { IsPathField word.now (option_map (λ f. (f.0.now, f.1.now)) result) }
 {
@@ -68,8 +69,7 @@ fn path_field(word: &[u8]) -> Option<(&[u8], &[u8])>
     }
 }
 
-/// What a dependency says of the name and the path that it asks for. Where a spec or bounds don't
-/// stand, they are the empty text.
+/// The fields of a dependency. A missing spec and missing bounds are the empty text.
 #[derive(Clone, Copy)]
 pub struct Fields<'a> {
     pub spec: &'a [u8],
@@ -77,7 +77,7 @@ pub struct Fields<'a> {
     pub bounds: &'a [u8],
 }
 
-/// The fields of a dependency, if the word has the shape of one.
+/// The fields of a dependency, if the word has the syntax of one.
 fn fields_of(word: &[u8]) -> Option<Fields<'_>>
     ensures { MatchOption result (is_shaped word.now ≡ false) (AreFieldsOf word.now) }
 {
@@ -86,7 +86,7 @@ fn fields_of(word: &[u8]) -> Option<Fields<'_>>
     Some(Fields { spec, path, bounds })
 }
 
-/// What stands before the bounds, which begin at the first `<`, `>` or `=`, and the bounds.
+/// The text before the bounds, and the bounds, which begin at the first `<`, `>` or `=`.
 fn before_bounds(field: &[u8]) -> (&[u8], &[u8])
     ensures path { result.0.now ≡ before_first is_operator_byte field.now }
     ensures bounds { result.1.now ≡ drop (position_or_len is_operator_byte field.now) field.now }
@@ -103,7 +103,7 @@ fn is_operator(byte: u8) -> bool
     byte == b'<' || byte == b'>' || byte == b'='
 }
 
-/// The spec that a text in a line spells.
+/// Parses a spec in a line.
 fn read_spec(alloc: Global, line: u64, text: &[u8]) -> Result<Spec, ListingFault>
     ensures { MatchResult result (λ s. spec_of text.now ≡ Ok s)
         (λ e. (e ≡ ListingFault.Memory)
@@ -116,7 +116,7 @@ fn read_spec(alloc: Global, line: u64, text: &[u8]) -> Result<Spec, ListingFault
     }
 }
 
-/// The spec that bounds behind a path mean: a name of any stem within them.
+/// The spec for the bounds after a path: any stem, and a version within the bounds.
 fn read_bounds(alloc: Global, line: u64, bounds: &[u8]) -> Result<Spec, ListingFault>
     ensures { MatchResult result (λ s. spec_of (codes "STEM-" ++ bounds.now) ≡ Ok s)
         (λ e. (e ≡ ListingFault.Memory)
@@ -128,7 +128,7 @@ fn read_bounds(alloc: Global, line: u64, bounds: &[u8]) -> Result<Spec, ListingF
     read_spec(alloc, line, text.as_slice())
 }
 
-/// The specs that a dependency has before its path and behind it.
+/// The specs of a dependency, from before and after its path.
 fn read_specs(
     alloc: Global,
     line: u64,
@@ -151,15 +151,15 @@ fn read_specs(
     Ok(specs)
 }
 
-/// What a dependency asks for: a path, and a name there that all specs match.
+/// What a dependency requires: a path, and a name there that all specs match.
 #[derive(Drop)]
 pub struct Dependency {
     pub path: PkgPath,
     pub specs: Vec<Spec>,
 }
 
-/// What has become of a dependency: the position of its path, if that is listed, and whether the
-/// name there is one that all its specs match.
+/// The resolution of a dependency: the position of its path, if it is listed, and whether all specs
+/// match the name there.
 #[derive(Clone, Copy)]
 pub struct Resolution {
     pub position: Option<u32>,
@@ -174,7 +174,7 @@ fn all_match(specs: &[Spec], name: &PkgName) -> bool
 }
 
 impl Dependency {
-    /// The dependency that a word spells.
+    /// Parses a dependency.
     fn read(alloc: Global, line: u64, word: &[u8]) -> Result<Dependency, ListingFault>
         ensures { MatchResult result (IsRead word.now)
             (λ e. (e ≡ ListingFault.Memory) ⊎ (word_fault names_and_specs line word.now ≡ Some e)) }
@@ -187,7 +187,7 @@ impl Dependency {
         Ok(Dependency { path, specs })
     }
 
-    /// Whether the row has a name that all the specs match.
+    /// Whether the row has a name, and all specs match it.
     fn is_met_by(&self, row: &Row<'_>) -> bool
         ensures { result ≡ option_map_or (all_match self.now.specs.items) (name_in row.now) false }
     {
@@ -197,7 +197,7 @@ impl Dependency {
         }
     }
 
-    /// What becomes of the dependency where these paths are listed, each with its row.
+    /// Resolves the dependency, given the listed paths and a row for each.
     fn resolve(&self, listed: &IndexSet<PkgPath>, rows: &[Row<'_>]) -> Resolution
         requires few { index_set_len listed.now ≤ most_paths }
         requires rows { length rows.now ≡ length listed.now.keys }
@@ -216,7 +216,7 @@ impl Dependency {
     }
 }
 
-/// The different dependencies that were read, in the order in which they first came.
+/// The distinct parsed dependencies, in the order in which they first occurred.
 #[derive(Drop)]
 pub struct Dependencies<'a> {
     read: IndexMap<Word<'a>, Dependency>,
@@ -234,7 +234,7 @@ impl<'a> Model for Dependencies<'a> {
 }
 
 impl<'a> Dependencies<'a> {
-    /// None yet.
+    /// No dependencies.
     pub fn new(alloc: Global) -> Dependencies<'a>
         ensures { result ≡ [] }
     {
@@ -243,7 +243,7 @@ impl<'a> Dependencies<'a> {
         }
     }
 
-    /// Reads the dependencies of a value, from the left, and answers their numbers.
+    /// Parses the dependencies of a value, from the left, and returns their numbers.
     pub fn read(
         &mut self,
         alloc: Global,
@@ -270,7 +270,7 @@ impl<'a> Dependencies<'a> {
         Ok(numbers)
     }
 
-    /// The number of a dependency, in few bytes.
+    /// The number of a dependency as a `u32`; parses it if it is new.
     fn number(&mut self, alloc: Global, line: u64, word: &'a [u8]) -> Result<u32, ListingFault>
         ensures answer { MatchResult result
             (λ n. (word_fault names_and_specs line word.now ≡ None)
@@ -285,7 +285,7 @@ impl<'a> Dependencies<'a> {
         }
     }
 
-    /// Where a dependency stands among the different ones, which is read where it first comes.
+    /// The index of a dependency among the distinct ones; parses it if it is new.
     fn place(&mut self, alloc: Global, line: u64, word: &'a [u8]) -> Result<usize, ListingFault>
         ensures answer { MatchResult result
             (λ n. (word_fault names_and_specs line word.now ≡ None)
@@ -304,8 +304,7 @@ impl<'a> Dependencies<'a> {
         }
     }
 
-    /// What becomes of each dependency, by its number, where these paths are listed, each with its
-    /// row.
+    /// Resolves each dependency, by its number, given the listed paths and a row for each.
     pub fn resolve(
         &self,
         alloc: Global,
@@ -326,7 +325,7 @@ impl<'a> Dependencies<'a> {
     }
 }
 
-/// The path that a text in a line spells.
+/// Parses a package path in a line.
 pub fn read_path(alloc: Global, line: u64, text: &[u8]) -> Result<PkgPath, ListingFault>
     ensures { MatchResult result (λ p. path_of text.now ≡ Ok p)
         (λ e. (e ≡ ListingFault.Memory)

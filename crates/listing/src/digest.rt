@@ -9,10 +9,10 @@ use crate::tree::Tree;
 use sha2::{Digest, Sha256};
 
 impl Tree {
-    /// SHA-256 (FIPS 180-4) of the tree as lines, each ended by LF: for each package, by position,
-    /// `P PATH`, `N NAME`, `X` if it is marked, `B PATH` for each build dependency and `R PATH` for
-    /// each run dependency, by position; and then, for each group of two or more packages, by its
-    /// least position, `G PATH`, the path that names it.
+    /// SHA-256 (FIPS 180-4) of the tree as lines, each ended by LF. For each package, by position:
+    /// `P PATH`, `N NAME`, `X` if it is marked, then `B PATH` for each build dependency and `R
+    /// PATH` for each run dependency, by position. Then, for each group of two or more packages, in
+    /// the order of lowest positions: `G PATH`, the path that names the group.
     #[tactic(auto, unfolding(crate::specs::Digest::digest_text))]
     pub fn digest(&self) -> [u8; 32]
         ensures { result ≡ sha256 (digest_text self.now) }
@@ -26,7 +26,7 @@ impl Tree {
     }
 }
 
-/// Feeds the lines of a package.
+/// Feeds the lines of a package to the hasher.
 fn put_package(hasher: &mut Sha256, tree: &Tree, position: u32)
     requires { position < length tree.now }
     ensures { Takes hasher.old hasher.new (package_lines tree.now (package_at tree.now position)) }
@@ -40,7 +40,7 @@ fn put_package(hasher: &mut Sha256, tree: &Tree, position: u32)
     put_paths(hasher, b"R ", tree, tree.run_deps(position));
 }
 
-/// Feeds a line for each position: the word, then the path there.
+/// Feeds a line for each position: the word, then the path at the position.
 fn put_paths(hasher: &mut Sha256, word: &[u8], tree: &Tree, positions: &[u32])
     requires { ArePositions tree.now positions.now }
     ensures { Takes hasher.old hasher.new (path_lines tree.now word.now positions.now) }

@@ -17,15 +17,15 @@ use sha2::Sha256;
 use std::alloc::Global;
 use std::marker::Model;
 
-/// The fewest packages of a group that the digest tells.
+/// The minimum size of a group that has a line in the digest.
 const SEVERAL: u32 = 2;
 
-/// The group of each package, by position. Contracts see the paths that name them.
+/// The group of each package, by position. Contracts see the paths that name the groups.
 #[derive(Drop)]
 pub struct Groups {
-    /// How many packages each group has. The groups stand in the order of their least positions.
+    /// The number of packages in each group. Groups are in the order of their lowest positions.
     sizes: IndexMap<PkgPath, u32>,
-    /// Where the group of each package stands there.
+    /// The index in `sizes` of each package's group.
     places: Vec<usize>,
 }
 
@@ -42,7 +42,8 @@ impl Model for Groups {
 }
 
 impl Groups {
-    /// The groups of the packages with these paths.
+    /// The groups of packages with these paths. The flag says whether each path is a group of its
+    /// own.
     pub fn of(alloc: Global, paths: &[PkgPath], is_single: bool) -> Result<Groups, Memory>
         requires { length paths.now ≤ most_paths }
         ensures { IfOk result (λ groups. groups ≡ map (group_by is_single) paths.now) }
@@ -66,7 +67,7 @@ impl Groups {
         self.sizes.get_index(place).unwrap().0
     }
 
-    /// Feeds a line for each group of two or more packages, in the order of their least positions.
+    /// Feeds a line for each group of two or more packages, in the order of their lowest positions.
     pub fn put_lines(&self, hasher: &mut Sha256)
         ensures { Takes hasher.old hasher.new (lines_of_groups self.now) }
     {
@@ -75,7 +76,7 @@ impl Groups {
         }
     }
 
-    /// Feeds a line for the group that stands at the place, if two or more packages are of it.
+    /// Feeds a line for the group at the index, if it has two or more packages.
     fn put_line(&self, hasher: &mut Sha256, place: usize)
         requires { place < length (in_order_of_appearance self.now) }
         ensures { let group = text_at (in_order_of_appearance self.now) place in
@@ -89,7 +90,7 @@ impl Groups {
     }
 }
 
-/// The path that names the group of a path.
+/// The path that names the group of a path. The flag says whether each path is a group of its own.
 fn group_of(path: &PkgPath, is_single: bool) -> Result<PkgPath, Memory>
     ensures { IfOk result (λ group. group ≡ group_by is_single path.now) }
 {
@@ -100,7 +101,7 @@ fn group_of(path: &PkgPath, is_single: bool) -> Result<PkgPath, Memory>
     }
 }
 
-/// Counts one more package of the group, and answers where the group stands.
+/// Counts one more package of the group, and returns the group's index.
 fn count(sizes: &mut IndexMap<PkgPath, u32>, group: PkgPath) -> Result<usize, Memory>
     requires { (names : List Text) × AreSizes names sizes.old.entries
         × (length names < most_paths) }

@@ -20,30 +20,31 @@ mod word;
 
 pub use crate::laws::lone_packages_have_no_groups;
 pub use crate::tree::Tree;
+pub use pkgpath::PkgPath;
 
-/// Why a text is no listing. Of several faulty lines the first counts. A line is tested for its
-/// form, its path, the number of paths, its value from the left, and a second setting, in this
-/// order. Each fault but `Memory` has its line as its place, counted from 1.
+/// Why a text is not a listing. The first faulty line decides. A line is tested for its form, its
+/// path, the number of paths, its value from the left, and a second, different value, in this
+/// order. The place of each fault except `Memory` is its line, counted from 1.
 #[derive(Clone, Copy, Debug, PartialEq, Eq, Error)]
 pub enum ListingFault {
-    /// Number 1: a growth was refused. It says nothing of the text.
+    /// Number 1: an allocation failed. This says nothing about the text.
     #[error("out of memory")]
     Memory,
-    /// Number 401: the line has no `=`, or no dot before it; or its FULLPKGNAME is no package name;
-    /// or a dependency in it has not the shape of one, or a spec that is none.
-    #[error("line {0} is no line of a listing")]
+    /// Number 401: the line has no `=`, or no dot before it; its FULLPKGNAME is not a package name;
+    /// or a dependency in it is malformed, or has a malformed spec.
+    #[error("line {0} is malformed")]
     BadLine(u64),
-    /// Number 402: the line's own path, or the path of a dependency in it, is none.
-    #[error("line {0} has a text that is no package path")]
+    /// Number 402: the line's own path, or the path of a dependency in it, is not a package path.
+    #[error("line {0} contains a malformed package path")]
     BadPath(u64),
-    /// Number 403: the line sets a variable of a path to another value than an earlier line does.
+    /// Number 403: the line sets a variable of a path to a different value than an earlier line.
     #[error("line {0} sets a variable to another value")]
     TwiceSet(u64),
-    /// Number 404: the line has the 16,385th path, or a 513th dependency in its value.
-    #[error("line {0} has one path or one dependency too many")]
+    /// Number 404: the line has the 16,385th path, or its value has a 513th dependency.
+    #[error("line {0} exceeds the limit of paths or dependencies")]
     TooMany(u64),
-    /// Number 405: no line is faulty, and a path has no FULLPKGNAME. The line is the first that
-    /// sets a variable of such a path.
+    /// Number 405: no line is faulty, but a path has no FULLPKGNAME. The place is the first line
+    /// that sets a variable of such a path.
     #[error("the path at line {0} has no name")]
     NoName(u64),
 }

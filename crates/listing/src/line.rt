@@ -19,7 +19,7 @@ pub enum Variable {
 }
 
 impl Variable {
-    /// The variable of this name, if it is one that is read.
+    /// The variable with this name, if it is one that is read.
     pub fn named(name: &[u8]) -> Option<Variable>
         ensures { MatchOption result (is_among variables name.now ≡ false)
             (λ v. name.now ≡ name_of_variable v) }
@@ -40,8 +40,8 @@ impl Variable {
     }
 }
 
-/// What stands in a line: a path, the name of a variable, and a value without spaces and tabs at
-/// its ends.
+/// The parts of a line: a path, the name of a variable, and a value without leading and trailing
+/// spaces and tabs.
 #[derive(Clone, Copy)]
 pub struct Parts<'a> {
     pub path: &'a [u8],
@@ -56,7 +56,7 @@ pub fn is_skipped(line: &[u8]) -> bool
     line.is_empty() || line.starts_with(b"===>")
 }
 
-/// The parts of a line, cut at its first `=` and, before that, at the last dot, if it has both.
+/// The parts of a line, split at its first `=` and at the last dot before that, if it has both.
 pub fn parts_of(line: &[u8]) -> Option<Parts<'_>>
     ensures { MatchOption result (is_cut line.now ≡ false) (AreParts line.now) }
 {
@@ -76,8 +76,8 @@ pub fn is_blank(byte: u8) -> bool
     byte == b' ' || byte == b'\t'
 }
 
-/// The first word of a value, and what stands behind the space or tab that ends it, if the value
-/// has a word.
+/// The first word of a value, if it has one, and the text after the space or tab that ends the
+/// word.
 pub fn first_word(value: &[u8]) -> Option<(&[u8], &[u8])>
     ensures words { MatchOption result
         (words_of value.now ≡ [])
@@ -92,7 +92,7 @@ pub fn first_word(value: &[u8]) -> Option<(&[u8], &[u8])>
     }
 }
 
-/// The text without the spaces and tabs at its ends.
+/// The text without leading and trailing spaces and tabs.
 fn trimmed(text: &[u8]) -> &[u8]
     ensures { result.now ≡ trimmed text.now }
 {

@@ -1,4 +1,4 @@
-//! What the lines of a listing set, filled line by line.
+//! The table of what the lines of a listing set, filled line by line.
 ghost use Rattle.std.specs.Prelude.{◌≡◌, ◌⊎◌, ◌++◌, ◌∷◌, [], List, None, Some, Ok, Err, false, true, is_ok, length, slice_index_or, slice_set, ◌<◌, option_map, option_to_list, IfSome, MatchResult};
 ghost use Rattle.std.specs.List.{list_any};
 ghost use Rattle.std.specs.Str.{bytes_eq};
@@ -20,10 +20,10 @@ use pkgname::{NameFault, PkgName};
 use pkgpath::PkgPath;
 use std::alloc::Global;
 
-/// The most paths in a listing.
+/// The maximum number of paths in a listing.
 const MOST_PATHS: usize = 16_384;
 
-/// What a value was read as: a name, the numbers of dependencies, or a text that is not read.
+/// A parsed value: a name, the numbers of dependencies, or a text that is not parsed.
 #[derive(Drop)]
 pub enum Reading {
     Name(PkgName),
@@ -31,15 +31,14 @@ pub enum Reading {
     Unread,
 }
 
-/// What a variable is set to, and what that was read as.
+/// The value of a variable, as text and parsed.
 #[derive(Drop)]
 pub struct Value<'a> {
     pub text: &'a [u8],
     pub reading: Reading,
 }
 
-/// What the variables of a path are set to, and the line where the path first stands, with the text
-/// that spells it there.
+/// The variables of a path, the path's first line, and the spelling of the path in that line.
 #[derive(Drop)]
 pub struct Row<'a> {
     pub line: u64,
@@ -105,7 +104,7 @@ impl<'a> Row<'a> {
         }
     }
 
-    /// Sets a variable. One that is set stays, if the value is the same.
+    /// Sets a variable. It is a fault to set it to a different value later.
     fn set(&mut self, line: u64, variable: Variable, value: Value<'a>) -> Result<(), ListingFault>
         ensures { MatchResult result
             (λ _. (self.new ≡ with_value self.old variable value.entry)
@@ -123,7 +122,7 @@ impl<'a> Row<'a> {
     }
 }
 
-/// Puts the value where none is. One that is there stays, if it is the same.
+/// Stores the value if there is none yet. It is a fault if there is a different one.
 fn put<'a>(place: &mut Option<Value<'a>>, line: u64, value: Value<'a>) -> Result<(), ListingFault>
     ensures { MatchResult result
         (λ _. (place.new ≡ option_or place.old (Some value.entry))
@@ -163,7 +162,7 @@ fn set_in<'a>(
     rows[position].set(line, variable, value)
 }
 
-/// The name that the value in a line is.
+/// Parses the value in a line as a name.
 fn read_name(alloc: Global, line: u64, text: &[u8]) -> Result<PkgName, ListingFault>
     ensures { MatchResult result (λ n. name_of text.now ≡ Ok n)
         (λ e. (e ≡ ListingFault.Memory)
@@ -177,7 +176,7 @@ fn read_name(alloc: Global, line: u64, text: &[u8]) -> Result<PkgName, ListingFa
 }
 
 impl<'a> Table<'a> {
-    /// A table of nothing.
+    /// An empty table.
     pub fn new(alloc: Global) -> Table<'a>
         ensures { Stands result [] }
     {
@@ -188,7 +187,7 @@ impl<'a> Table<'a> {
         }
     }
 
-    /// Takes in one more line.
+    /// Reads one more line.
     pub fn read(&mut self, alloc: Global, number: u64, line: &'a [u8]) -> Result<(), ListingFault>
         requires { length self.old.rows.items ≡ length self.old.paths.keys }
         ensures { (earlier : List Setting) → Stands self.old earlier → MatchResult result
@@ -213,8 +212,8 @@ impl<'a> Table<'a> {
         self.set(alloc, number, path, parts.path, variable, parts.value)
     }
 
-    /// Where the latest path stands, if this text spells it in its first line. The lines of a path
-    /// mostly stand together, so that few paths have to be read and found.
+    /// The index of the latest path, if its first line spells it with this text. The lines of a
+    /// path are usually adjacent, so few paths must be parsed and looked up.
     fn latest(&self, spelled: &[u8]) -> Option<usize>
         ensures { IfSome result (λ at. IsSpelled self.now.rows.items at spelled.now) }
     {
@@ -287,7 +286,7 @@ impl<'a> Table<'a> {
         self.add(line, path, spelled, variable, value)
     }
 
-    /// Adds a path with one variable that is set.
+    /// Adds a path with one variable.
     fn add(
         &mut self,
         line: u64,
@@ -308,7 +307,7 @@ impl<'a> Table<'a> {
         Ok(())
     }
 
-    /// Reads the value of a variable.
+    /// Parses the value of a variable.
     fn read_value(
         &mut self,
         alloc: Global,

@@ -1,4 +1,4 @@
-//! A tree, which contracts see as the list of its packages.
+//! A tree. Contracts see it as the list of its packages.
 ghost use Rattle.std.specs.Prelude.{◌≡◌, ◌⊎◌, ◌<◌, List, None, Some, length, map, MatchResult};
 ghost use Rattle.faults.specs.Answers.{IsRightUnless, first_given};
 ghost use Rattle.listing.specs.Lines.{Setting};
@@ -19,14 +19,14 @@ use std::alloc::Global;
 use std::marker::Model;
 
 /// The packages of a listing, by position: at most 16,384, numbered from 0 in the order of their
-/// paths' first lines. Packages whose paths are equal without their subpackages are of one group,
-/// or each is a group of its own.
+/// paths' first lines. Either packages whose paths are equal without their subpackages are in one
+/// group, or each is a group of its own.
 #[derive(Drop)]
 pub struct Tree {
     paths: IndexSet<PkgPath>,
     bare_packages: Vec<BarePackage>,
     groups: Groups,
-    /// Each package is a group of its own.
+    /// Whether each package is a group of its own.
     is_single: bool,
 }
 
@@ -47,11 +47,11 @@ impl Model for Tree {
 }
 
 impl Tree {
-    /// The tree that the listing describes.
+    /// Parses the listing.
     ///
     /// # Errors
     ///
-    /// `Memory`, where a growth was refused; else the fault of the first faulty line; and where no
+    /// `Memory` if an allocation failed; otherwise the fault of the first faulty line; or, if no
     /// line is faulty, `NoName` for the first line whose path has no name.
     pub fn parse(alloc: Global, text: &[u8]) -> Result<Tree, ListingFault>
         ensures { IsRightUnless ListingFault.Memory result (tree_of names_and_specs text.now) }
@@ -59,7 +59,7 @@ impl Tree {
         Tree::read(alloc, text, false)
     }
 
-    /// The same tree, but each package is a group of its own.
+    /// Parses the listing like `parse`, but makes each package a group of its own.
     ///
     /// # Errors
     ///
@@ -70,7 +70,7 @@ impl Tree {
         Tree::read(alloc, text, true)
     }
 
-    /// The tree that the listing describes, where each package is a group of its own or not.
+    /// Parses the listing; the flag says whether each package is a group of its own.
     fn read(alloc: Global, text: &[u8], is_single: bool) -> Result<Tree, ListingFault>
         ensures { IsRightUnless ListingFault.Memory result
             (tree_of (with_groups (group_by is_single)) text.now) }
@@ -85,7 +85,7 @@ impl Tree {
         Tree::of_table(alloc, table, is_single)
     }
 
-    /// The tree of all that the lines set, if each path has a name.
+    /// The tree of what the lines set, if each path has a name.
     fn of_table(alloc: Global, table: Table<'_>, is_single: bool) -> Result<Tree, ListingFault>
         requires { (settings : List Setting) × Stands table settings }
         ensures { (settings : List Setting) → Stands table.entry settings
@@ -111,7 +111,7 @@ impl Tree {
         &self.groups
     }
 
-    /// How many packages are listed. Their positions are the numbers below that.
+    /// The number of packages. Positions are the numbers below it.
     pub fn len(&self) -> u32
         ensures count { result ≡ length self.now }
         ensures tree { IsTree self.now }
@@ -135,8 +135,8 @@ impl Tree {
         &self.paths.as_slice()[position as usize]
     }
 
-    /// The path that names the package's group: its path without the subpackage, or its path, where
-    /// each package is a group of its own.
+    /// The path that names the package's group: its path without the subpackage, or its whole path
+    /// if each package is a group of its own.
     pub fn group(&self, position: u32) -> &PkgPath
         requires { position < length self.now }
         ensures { result.now ≡ group_at self.now position }
@@ -152,8 +152,9 @@ impl Tree {
         &self.bare_packages[position as usize].name
     }
 
-    /// The positions of the listed dependencies of BUILD_DEPENDS and LIB_DEPENDS, ascending, each
-    /// once. A dependency whose path isn't listed has no position: it marks the package instead.
+    /// The positions of the listed dependencies in BUILD_DEPENDS and LIB_DEPENDS, ascending and
+    /// without duplicates. A dependency whose path isn't listed has no position; it marks the
+    /// package instead.
     pub fn build_deps(&self, position: u32) -> &[u32]
         requires { position < length self.now }
         ensures value { result.now ≡ build_at self.now position }
@@ -162,8 +163,9 @@ impl Tree {
         self.bare_packages[position as usize].build.as_slice()
     }
 
-    /// The positions of the listed dependencies of LIB_DEPENDS and RUN_DEPENDS, ascending, each
-    /// once. A dependency whose path isn't listed has no position: it marks the package instead.
+    /// The positions of the listed dependencies in LIB_DEPENDS and RUN_DEPENDS, ascending and
+    /// without duplicates. A dependency whose path isn't listed has no position; it marks the
+    /// package instead.
     pub fn run_deps(&self, position: u32) -> &[u32]
         requires { position < length self.now }
         ensures value { result.now ≡ run_at self.now position }
@@ -172,8 +174,8 @@ impl Tree {
         self.bare_packages[position as usize].run.as_slice()
     }
 
-    /// Whether the package's IGNORE isn't empty, or a dependency of it has a path that isn't
-    /// listed, or one whose listed name a spec of the dependency doesn't match.
+    /// Whether the package's IGNORE isn't empty, or a dependency's path isn't listed, or a spec of
+    /// a dependency doesn't match the listed name.
     pub fn marked(&self, position: u32) -> bool
         requires { position < length self.now }
         ensures { result ≡ is_marked_at self.now position }
@@ -182,7 +184,7 @@ impl Tree {
     }
 }
 
-/// The packages of all that the lines set, without their paths, if each has a name.
+/// The packages of what the lines set, without their paths, if each has a name.
 fn bare_packages_of_table(
     alloc: Global,
     table: &Table<'_>,

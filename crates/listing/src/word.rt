@@ -1,4 +1,4 @@
-//! A word of a listing, which contracts see as its bytes.
+//! A word of a listing. Contracts see its bytes.
 ghost use Rattle.std.specs.Prelude.{◌≡◌, ◌∷◌, [], nat_eq};
 ghost use Rattle.std.proofs.Common.{rules};
 ghost use Rattle.std.specs.Cmp.{partial_equiv_from_equiv};
@@ -8,7 +8,7 @@ ghost use Rattle.std.specs.Cmp.Rules.{comparing, hashing};
 use std::hash::{Hash, Hasher};
 use std::marker::Model;
 
-/// A word as it stands in a listing. Words are compared and hashed by their bytes.
+/// A word as written in a listing. Words are compared and hashed by their bytes.
 #[derive(Drop)]
 pub struct Word<'a> {
     text: &'a [u8],
@@ -45,7 +45,7 @@ impl<'a> Eq for Word<'a> {
 }
 
 impl<'a> Hash for Word<'a> {
-    // The text is fed in one write, so that a hasher takes many bytes at a time.
+    // The text is fed in one write, so that the hasher takes many bytes at a time.
     ghost hash_input = { λ text. text ∷ [] };
 
     ghost respects_eq = { Prim.search (hashing, rules) };

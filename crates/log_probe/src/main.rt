@@ -1,12 +1,12 @@
-//! Opens logs and appends to them, and tells what it meets.
+//! Opens logs, appends to them, and prints the results.
 //!
-//! `log_probe PATH COUNT LENGTH` tells how many notes it found, how many of COUNT notes of LENGTH
-//! bytes were appended, and the number of the refusal that came, if one came. The path `-` stands
-//! for a disk in memory; of that it tells at last how many notes are left after a crash.
+//! `log_probe PATH COUNT LENGTH` prints how many notes it found, how many of COUNT notes of LENGTH
+//! bytes it appended, and the number of the refusal, if there was one. The path `-` means a disk in
+//! memory; for that it also prints how many notes are left after a crash.
 //!
-//! `log_probe PATH TREE WEIGHTS ME` opens the log of a member, by the digest of the tree and the
-//! weights in hexadecimal and the own number, and tells each note in hexadecimal, or the number of
-//! the refusal.
+//! `log_probe PATH TREE WEIGHTS ME` opens the log of a member, given the digest of the tree and the
+//! weights in hexadecimal and the member's number. It prints each note in hexadecimal, or the
+//! number of the refusal.
 #![tactic(auto)]
 
 mod own;
@@ -17,7 +17,7 @@ use stable_record::{Disk, FileDisk, Identity, Left, Log, MemDisk};
 use std::process::ExitCode;
 use std::{env, io};
 
-/// A file could not be opened.
+/// The number for a file that can't be opened.
 const UNREADABLE: u32 = 2;
 
 fn main(rt: HostRuntime) -> io::Result<ExitCode> {
@@ -37,7 +37,7 @@ fn usage(rt: &HostRuntime) -> io::Result<ExitCode> {
     Ok(ExitCode::from(2))
 }
 
-/// Appends so many notes of a length.
+/// Appends this many notes of a length.
 fn appending(rt: &HostRuntime, path: &str, count: &str, length: &str) -> io::Result<ExitCode> {
     let count: u32 = count.parse().unwrap_or(0);
     let length: u32 = length.parse().unwrap_or(0);
@@ -49,7 +49,7 @@ fn appending(rt: &HostRuntime, path: &str, count: &str, length: &str) -> io::Res
     }
 }
 
-/// Opens the log of a member, and tells its notes.
+/// Opens the log of a member, and prints its notes.
 fn told(rt: &HostRuntime, path: &str, identity: &Identity) -> io::Result<ExitCode> {
     let Ok(disk) = disk_at(rt, path) else {
         return refused(rt, UNREADABLE);
@@ -70,7 +70,7 @@ fn tell(rt: &HostRuntime, note: &[u8]) -> io::Result<()> {
     println!(rt; "note {text}")
 }
 
-/// Appends to the log of a file.
+/// Appends to the log in a file.
 fn in_file(rt: &HostRuntime, path: &str, note: &[u8], count: u32) -> io::Result<ExitCode> {
     let Ok(disk) = disk_at(rt, path) else {
         return refused(rt, UNREADABLE);
@@ -108,8 +108,8 @@ fn in_memory(rt: &HostRuntime, note: &[u8], count: u32) -> io::Result<ExitCode> 
     }
 }
 
-/// Tells how many notes were found, appends a note so many times or up to the first refusal, and
-/// tells that. Gives the disk.
+/// Prints how many notes were found, appends a note this many times or up to the first refusal, and
+/// prints the result. Returns the disk.
 fn appended<D: Disk>(
     rt: &HostRuntime,
     mut log: Log<D>,
@@ -126,13 +126,13 @@ fn appended<D: Disk>(
     Ok(log.into_disk())
 }
 
-/// Tells the number of a refusal with which nothing is appended.
+/// Prints the number of a refusal before anything is appended.
 fn refused(rt: &HostRuntime, number: u32) -> io::Result<ExitCode> {
     println!(rt; "refused {number}")?;
     Ok(ExitCode::from(1))
 }
 
-/// Appends a note so many times, and stops at the first refusal.
+/// Appends a note this many times, and stops at the first refusal.
 fn append_all<D: Disk>(log: &mut Log<D>, note: &[u8], count: u32) -> (u32, Option<u32>) {
     for appended in 0..count {
         if let Err(fault) = log.append(note) {

@@ -1,10 +1,10 @@
-//! Whose the logs are.
+//! The owners of logs.
 use arrayvec::ArrayVec;
 use hex::FromHex;
 use stable_record::Identity;
 use std::alloc::Global;
 
-/// The first of three members that weigh the same.
+/// The first of three members with equal weights.
 pub fn same_weights() -> Identity {
     let mut weights = ArrayVec::new();
     for _member in 0..3 {
@@ -17,7 +17,8 @@ pub fn same_weights() -> Identity {
     }
 }
 
-/// The member of these words: the tree's digest and the weights in hexadecimal, and the own number.
+/// The member that these arguments describe: the tree's digest and the weights in hexadecimal, and
+/// the member's number.
 pub fn owner(alloc: Global, tree: &str, weights: &str, me: &str) -> Option<Identity> {
     let tree = <[u8; 32] as FromHex>::from_hex(tree).ok()?;
     let weights = weights_of(alloc, weights)?;

@@ -1,4 +1,4 @@
--- A build goes to all as the proposal of the claim that waits for it.
+-- A build is sent to all as the proposal of the claim that waits for it.
 use Rattle.std.proofs.Common.{◌≡◌, ◌==◌, ℕ, Bool, true, false, Option, Some, None, Result}
 use Rattle.std.proofs.Common.{Ok, Err, eqb-true, inl, inr, refl, sym, subst, ap}
 use Rattle.std.proofs.Common.{◌∙◌, if◌then◌else◌}
@@ -6,12 +6,12 @@ use Rattle.std.specs.Prelude.{◌⊎◌, option_and_then, unwrap_or}
 use Rattle.std.proofs.lemmas.Bool.{false≢true}
 use Rattle.faults.specs.Answers.{unless_fault}
 use Rattle.faults.specs.Bytes.{Text}
-use Rattle.agreement.specs.Member as members
-use Rattle.agreement.specs.Messages as messages
-use Rattle.agreement.specs.Quorums.{nobody}
-use Rattle.agreement.specs.Step.{Outcome, on_built, says}
-use Rattle.agreement.specs.Votes.{ballot}
-use Rattle.agreement.specs.declared.claim.Claim.{Claim}
+use Rattle.claims.specs.Member as members
+use Rattle.claims.specs.Messages as messages
+use Rattle.claims.specs.Quorums.{nobody}
+use Rattle.claims.specs.Step.{Outcome, on_built, says}
+use Rattle.claims.specs.Votes.{ballot}
+use Rattle.claims.specs.declared.claim.Claim.{Claim}
 use Rattle.claims.specs.Job.{Task}
 use Rattle.engine.specs.declared.Letter.TheVariants as letters
 use Rattle.ballots.specs.Support.{Support, of_nobody, set_of}
@@ -90,7 +90,7 @@ is_waiting s path u job e = by_unit (unit_in s path) refl e
     by_unit None named e = absurd (let no : None ≡ Some (u, job) = e in cc)
     by_unit (Some v) named e = by_claim v named s.claim refl e
 
--- what the theory's member does with the build
+-- what the abstract member does with the build
 abbrev proposed : State → ℕ → Claim → Value → Outcome Value
 proposed s u c v =
     says (record (view s u) { stage = members.Voting (ballot c v) nobody })
@@ -109,7 +109,7 @@ module _ (s : State) (path : Text) (given : Given) (u : ℕ) (job : Task)
   abbrev right : Result Answer Refusal
   right = at_unit refusals.NoClaim (builds s given) (unit_in s path)
 
-  -- the answer, where it is not refused
+  -- the answer if it is not refused
   abbrev agreeing : Value → Answer
   agreeing v =
       answered s u claim_is.claim.host (everyone s) (proposed s u claim_is.under v)
@@ -134,7 +134,7 @@ module _ (s : State) (path : Text) (given : Given) (u : ℕ) (job : Task)
       (answered_or refusals.NoClaim s u claim_is.claim.host (everyone s)
       (on_built (view s u) stage build))) stage_here)))
 
-  -- files that make no build
+  -- files that don't make a build
   pub built_refused : (e : Refusal)
       → (e ≡ refusals.Memory) ⊎ (made_by s u job given ≡ Err e)
       → IsPrepared s (inputs.Built path given) (Err e)
@@ -159,7 +159,7 @@ module _ (s : State) (path : Text) (given : Given) (u : ℕ) (job : Task)
           let same : f ≡ e = cc in
           ap (λ f. Err f) same
 
-  -- a build that they make
+  -- files that make a build
   right_made : (v : Value) → made_by s u job given ≡ Ok v → right ≡ Ok (agreeing v)
   right_made v made = right_is ∙ by_refusal (files_refusal s u given build) made
     where

@@ -1,4 +1,4 @@
--- What a change makes of the open claim.
+-- How a change affects the open claim.
 use Rattle.std.proofs.Common.{◌≡◌, ℕ, true, false, List, Some, refl, ap}
 use Rattle.std.proofs.Common.{subst, option_map}
 use Rattle.std.specs.Prelude.{unwrap_or}
@@ -14,7 +14,7 @@ use Rattle.member.specs.Prepared.{IsCountWeighedBy, changed, counted}
 use Rattle.member.specs.declared.open_claim.OpenClaim.{OpenClaim}
 use Rattle.member.specs.declared.step.ClaimChange.TheVariants.{Counts}
 
--- what is counted is what the claimer counts
+-- the count of the code is that of the claimer
 counted_then : (o : Claimer Value) (ch : ClaimerChange Value) → (ch ≡ change.Ends → ⊥)
     → counted ch (progress_of_claimer o) ≡ Some (progress_of_claimer (claimer_then o ch))
 counted_then o change.Stays goes_on = refl
@@ -36,7 +36,7 @@ changed_then o ch goes_on =
     ap (option_map (λ progress. record (open_of o) { progress = progress }))
     (counted_then o.claimer ch goes_on)
 
--- and it weighs members as before
+-- and the weights stay
 pub weighed_then : (weights : List ℕ) (o : Claimer Value) (ch : ClaimerChange Value)
     → IsWeighedBy weights o → IsCountWeighedBy weights ch (progress_of_claimer o)
     → IsWeighedBy weights (claimer_then o ch)
@@ -59,6 +59,6 @@ weighed_then weights (claimers.Voting c w s) (change.Proposes v t) was is =
     record { same = is.same; within = is.within }
 weighed_then weights o change.Ends was is = was
 
--- what holds of the claim holds of it where there is one
+-- a property of the claim holds of the claim as an option
 pub of_some : {X : Type 0} (P : X → Type 0) (x : X) → P x → ForSome (Some x) P
 of_some P x holds other e = subst P (ap (λ o. unwrap_or o x) e) holds

@@ -1,17 +1,17 @@
--- The step of a claimer, for a promise or a vote, makes the answer of the theory's member.
+-- The step of a claimer, on a promise or a vote, is the answer of the abstract member.
 use Rattle.std.proofs.Common.{◌≡◌, ◌<◌, ◌&&◌, ◌∙◌, not, ℕ, Bool, true, false, List, Option, Some}
 use Rattle.std.proofs.Common.{None, [], ap, ap₂, arith, length, option_map, refl, subst, sym}
 use Rattle.std.proofs.Common.{if◌then◌else◌}
 use Rattle.std.proofs.lemmas.Bool.{and_parts, cond_both, leb-true, true≢false}
 use Rattle.std.specs.List.{list_all}
 use Rattle.std.specs.Prelude.{nat_le}
-use Rattle.agreement.specs.Claims.{claim_same}
-use Rattle.agreement.specs.Member as members
-use Rattle.agreement.specs.Messages as messages
-use Rattle.agreement.specs.Quorums.{Quorums, is_majority, with_member}
-use Rattle.agreement.specs.Step.{Outcome, on_promise, on_quorum, on_vote}
-use Rattle.agreement.specs.Votes.{Ballot, PromiseOf, kept_report, report_of}
-use Rattle.agreement.specs.declared.claim.Claim.{Claim}
+use Rattle.claims.specs.Claims.{claim_same}
+use Rattle.claims.specs.Member as members
+use Rattle.claims.specs.Messages as messages
+use Rattle.claims.specs.Quorums.{Quorums, is_majority, with_member}
+use Rattle.claims.specs.Step.{Outcome, on_promise, on_quorum, on_vote}
+use Rattle.claims.specs.Votes.{Ballot, PromiseOf, kept_report, report_of}
+use Rattle.claims.specs.declared.claim.Claim.{Claim}
 use Rattle.ballots.specs.InTheAgreement.{IsClaimerStep, IsStepOnPromise, IsStepOnVote, builds_next}
 use Rattle.ballots.specs.InTheAgreement.{claim_of, claimer_then, is_building, noted_next}
 use Rattle.ballots.specs.InTheAgreement.{promise_outcome, said_next, stage_then, weights_of}
@@ -49,7 +49,7 @@ use Rattle.member.proofs.SameStep.{claim_is_own, counted_is, job_counted, moved_
 
 -- ---- the tally
 
--- a tally that counts members alone weighs them as the claimer does
+-- a tally that counts only members has the claimer's weights
 count_weighed : (weights : List ℕ) (o : Claimer Value) (c : ClaimerChange Value)
     → weights_of (claimer_then o c) ≡ weights → IsWithin (length weights) (stage_then o c)
     → IsCountWeighedBy weights c (progress_of_claimer o)
@@ -64,7 +64,7 @@ count_weighed weights o (change.Proposes v t) same within =
     record { same = same; within = within }
 count_weighed weights o change.Ends same within = tt
 
--- ---- what follows
+-- ---- what follows from the step
 
 -- the note that follows
 next_notes : (s : State) (o : code.OpenClaim) (n : Next Value) (c : ClaimerChange Value)
@@ -74,14 +74,14 @@ next_notes s o next.Build c = refl
 next_notes s o (next.Propose d v) c = refl
 next_notes s o (next.Hold noted sent) c = refl
 
--- who is told what follows: a proposal all, what is held all others
+-- the receivers of what follows: all for a proposal, all others for a held build
 abbrev IsTo : State → List ℕ → Next Value → Type 0
 IsTo s to next.Nothing = Unit {0}
 IsTo s to next.Build = Unit {0}
 IsTo s to (next.Propose d v) = to ≡ everyone s
 IsTo s to (next.Hold noted sent) = to ≡ others s
 
--- what is said then
+-- the messages that follow
 next_sends : (s : State) (o : code.OpenClaim) (to : List ℕ) (n : Next Value)
     (c : ClaimerChange Value) → IsTo s to n
     → (counter_prepared s (open_of o) n c).sends ≡ sends_of s o.unit to (said_next n)
@@ -92,7 +92,7 @@ next_sends s o to (next.Propose d v) c reach =
 next_sends s o to (next.Hold noted sent) c reach =
     ap (sent_to (Some (message_of s o.unit (bodies.Agreed sent)))) (sym reach)
 
--- the job that is given then
+-- the job that follows
 next_job : (s : State) (o : code.OpenClaim) (n : Next Value) (c : ClaimerChange Value)
     → (counter_prepared s (open_of o) n c).job
     ≡ (if builds_next n then Some (job_of s o.unit o.host (claim_of o.claimer)) else None)
@@ -102,7 +102,7 @@ next_job s o next.Build c =
 next_job s o (next.Propose d v) c = refl
 next_job s o (next.Hold noted sent) c = refl
 
--- what becomes of the claim is the claimer's change
+-- the change of the claim is the claimer's
 next_change : (s : State) (o : code.OpenClaim) (n : Next Value) (c : ClaimerChange Value)
     → (counter_prepared s (open_of o) n c).change ≡ Counts c
 next_change s o next.Nothing c = refl
@@ -178,7 +178,7 @@ counter_makes s o to w step at weighed is within reach = record {
         ∙ moved_is s (open_of o) (length s.weights) w.member.stage
         (counted step.change (progress_of_claimer o.claimer)) at far)
 
--- ---- who is told
+-- ---- receivers
 
 -- a promise notes nothing
 quorum_notes : (x : members.Member Value) (c : Claim) (k : Option (Ballot Value))
@@ -197,7 +197,7 @@ promise_notes enough x (members.Gathering c S k) p =
 promise_notes enough x (members.Building c) p = refl
 promise_notes enough x (members.Voting b S) p = refl
 
--- so what follows goes to all
+-- so what follows is sent to all
 to_everyone : (s : State) (n : Next Value) → noted_next n ≡ None → IsTo s (everyone s) n
 to_everyone s next.Nothing quiet = tt
 to_everyone s next.Build quiet = tt
@@ -205,7 +205,7 @@ to_everyone s (next.Propose d v) quiet = refl
 to_everyone s (next.Hold noted sent) quiet =
     absurd (let no : Some (members.Held noted) ≡ None = quiet in cc)
 
--- Whether it is a proposal that is said.
+-- Whether the message is a proposal.
 abbrev proposes : Option (messages.Message Value) → Bool
 proposes None = false
 proposes (Some (messages.Offer c)) = false
@@ -216,7 +216,7 @@ proposes (Some (messages.Nay m c p)) = false
 proposes (Some (messages.Agreed v)) = false
 proposes (Some messages.Ask) = false
 
--- a vote leads to no proposal
+-- no proposal follows from a vote
 vote_proposes : (enough : Quorums) (x : members.Member Value) (t : members.Stage Value) (m : ℕ)
     (c : Claim) → proposes (on_vote enough x t m c).send ≡ false
 vote_proposes enough x members.Closed m c = refl
@@ -227,7 +227,7 @@ vote_proposes enough x (members.Voting b S) m c =
     cond_both (claim_same c b.claim) _ _ P
     (λ t. cond_both (enough (with_member S m)) _ _ P (λ q. refl) (λ q. refl)) (λ f. refl)
 
--- so what follows goes to all others
+-- so what follows is sent to all others
 to_others : (s : State) (n : Next Value) → proposes (said_next n) ≡ false → IsTo s (others s) n
 to_others s next.Nothing none = tt
 to_others s next.Build none = tt
@@ -236,7 +236,7 @@ to_others s (next.Hold noted sent) none = refl
 
 -- ---- a promise, and a vote
 
--- the outcome counts members alone
+-- the outcome counts only members
 outcome_within : (s : State) (u from : ℕ) (body : Body Value) → IsMember s
     → u < length s.division.units → from < length s.weights
     → IsWithin (length s.weights) (outcome_of s u from body).member.stage
@@ -244,7 +244,7 @@ outcome_within s u from body is lt sender =
     (fits s (record { sender = from; tree = []; path = name_at s u; body = body }) u is
     (name_is_found s.division u is.division lt) sender).within
 
--- a promise is answered as the claimer says
+-- a promise is answered as the claimer does
 pub promise_makes : (s : State) (o : code.OpenClaim) (u from : ℕ) (c : Claim)
     (report : Option (Claim × Value)) (step : ClaimerStep Value) (made : Prepared) → IsMember s
     → s.claim ≡ Some (open_of o) → o.unit ≡ u → IsWeighedBy s.weights o.claimer

@@ -18,7 +18,7 @@ use Rattle.package_record.specs.Build.{paths_of}
 use Rattle.package_record.specs.Content.{Content}
 use Rattle.protocol.specs.State.{record_in}
 
--- what is below is told so
+-- being below, as an ordering
 is_less : (o : Ordering) → is_lt o ≡ true → o ≡ Less
 is_less Less e = refl
 is_less Equal e = absurd (true≢false (sym e))
@@ -35,20 +35,20 @@ below_each t (r ∷ rs) below (suc k) d lt =
     below_each t rs (and_parts (is_lt (text_cmp t r.path)) _ below).1 k d (omega (arith, lt))
 
 module _ (path : Text) where
-  -- how a record lies to the path
+  -- how a record compares with the path
   abbrev place : Content → Ordering
   place r = text_cmp r.path path
 
   abbrev has_path : Content → Bool
   has_path r = bytes_eq r.path path
 
-  -- what is found first, by whether the first has the path
+  -- the first record found, by whether the first one has the path
   by_first : (r : Content) (rs : List Content) (o : Ordering) → place r ≡ o
       → find has_path (r ∷ rs) ≡ cond (is_eq o) (Some r) (find has_path rs)
   by_first r rs o at =
       ap (λ b. cond b (Some r) (find has_path rs)) (texts_ties r.path path ∙ ap is_eq at)
 
-  -- none is found where none has the path
+  -- nothing is found if none has the path
   not_found : (rs : List Content)
       → ((k : ℕ) (d : Content) → k < length rs → is_eq (place (slice_index_or rs k d)) ≡ false)
       → find has_path rs ≡ None
@@ -58,7 +58,7 @@ module _ (path : Text) where
       ∙ (ap (λ b. cond b (Some r) (find has_path rs)) (apart 0 r (omega arith))
       ∙ not_found rs (λ k d lt. apart (suc k) d (omega (arith, lt))))
 
-  -- of records that ascend, the one that has the path is found
+  -- in ascending records, the one with the path is found
   found : (rs : List Content) (i : ℕ) (d : Content) → is_ascending (paths_of rs) ≡ true
       → i < length rs → place (slice_index_or rs i d) ≡ Equal
       → find has_path rs ≡ Some (slice_index_or rs i d)
@@ -72,7 +72,7 @@ module _ (path : Text) where
       (ap (text_cmp r.path) (sym (same_texts (slice_index_or rs i d).path path at)) ∙ less)
       ∙ found rs i d parts.1 inside at
 
-  -- where the path lies before one text, it does so before all above that
+  -- a path below a text is below all texts above that
   higher : (t u : Text) → text_cmp t u ≡ Less
       → ordering_index (text_cmp t path) ≤ ordering_index (text_cmp u path)
   higher t u less = by (text_cmp t path) refl
@@ -90,7 +90,7 @@ module _ (path : Text) where
           let behind = above (nat_list_cmp_total.trans path t u (flipped t path at) less) in
           omega (arith, ap ordering_index behind)
 
-  -- so the places rise
+  -- so the comparisons ascend
   places_rise : (rs : List Content) → is_ascending (paths_of rs) ≡ true
       → IsNonDecreasingBy (λ r. ordering_index (place r)) rs
   places_rise [] up i j d le lt = absurd (omega (arith, lt))
@@ -104,13 +104,13 @@ module _ (path : Text) where
       let parts = and_parts (list_all (λ u. is_lt (text_cmp r.path u)) (paths_of rs)) _ up in
       places_rise rs parts.1 i j d (omega (arith, le)) (omega (arith, lt))
 
-  -- where a binary search ends at a record, that is the one
+  -- a record that a binary search finds is the right one
   pub found_by : (rs : List Content) (i : ℕ) (r : Content) → is_ascending (paths_of rs) ≡ true
       → i < length rs → IsBinarySearchResult place rs (Ok i)
       → record_in path rs ≡ Some (slice_index_or rs i r)
   found_by rs i r up inside at = found rs i r up inside (at r)
 
-  -- and where it ends at none, there is none
+  -- and if it finds none, there is none
   pub none_by : (rs : List Content) (i : ℕ) → is_ascending (paths_of rs) ≡ true
       → IsBinarySearchResult place rs (Err i) → record_in path rs ≡ None
   none_by rs i up parted = not_found rs apart

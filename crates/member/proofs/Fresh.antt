@@ -4,7 +4,7 @@ use Rattle.std.proofs.Common.{None, refl, ap, ◌∙◌, filter, length, map, re
 use Rattle.std.specs.Prelude.{cond, is_some}
 use Rattle.std.specs.FinSet as set
 use Rattle.std.proofs.lemmas.List.Elements.{All-map, All-nil}
-use Rattle.agreement.specs.Member.{Facts, no_facts}
+use Rattle.claims.specs.Member.{Facts, no_facts}
 use Rattle.ballots.specs.Weights.{AreWeights}
 use Rattle.ballots.specs.declared.message.Note.{Note}
 use Rattle.engine.specs.Division.{Division, IsDivision, number_named, number_of}
@@ -15,19 +15,19 @@ use Rattle.protocol.proofs.Known.{at_any}
 use Rattle.protocol.proofs.Restored.{notes_restore}
 use Rattle.member.specs.shared.Fields.{engine_with}
 
--- where nothing passes, nothing is kept
+-- nothing remains if nothing passes the filter
 nothing_kept : (P : ℕ → Bool) (xs : List ℕ) → ((k : ℕ) → P k ≡ false) → filter P xs ≡ []
 nothing_kept P [] none = refl
 nothing_kept P (x ∷ xs) none =
     ap (λ b. cond b (x ∷ filter P xs) (filter P xs)) (none x) ∙ nothing_kept P xs none
 
--- one for each
+-- the same value for each
 pub each_alike : {X Y : Type 0} (y : Y) (xs : List X) → map (λ x. y) xs ≡ replicate (length xs) y
 each_alike y [] = refl
 each_alike y (x ∷ xs) = ap (λ ys. y ∷ ys) (each_alike y xs)
 
 module _ (d : Division) where
-  -- a member that knows nothing
+  -- the state of a member that knows nothing
   abbrev unknowing : State
   unknowing = fresh d [] 0
 
@@ -41,14 +41,14 @@ module _ (d : Division) where
           no_facts (All-map (λ (f : Facts Value). is_some f.held ≡ false) (λ x. no_facts) d.units
           (λ k x within. refl)) refl
 
-  -- the engine of nothing
+  -- its engine has nothing agreed
   pub fresh_engine : engine_with d (map (λ x. no_facts) d.units)
       ≡ record { tree = d.tree; agreed = set.empty }
   fresh_engine =
       ap (λ ps. record { tree = d.tree; agreed = set.from_list ps })
       (nothing_kept (holds_package unknowing) (positions d.tree) nothing_held)
 
--- it is one
+-- it is a member
 pub fresh_member : (d : Division) (weights : List ℕ) (me : ℕ) → IsDivision d → AreWeights weights
     → me < length weights → IsMember (fresh d weights me)
 fresh_member d weights me is are lt =

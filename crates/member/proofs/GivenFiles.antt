@@ -1,9 +1,9 @@
--- Files by path, and whether they are of just the packages of a unit.
+-- Files by path, and whether they are exactly those of a unit's packages.
 use Rattle.std.proofs.Common.{◌≡◌, ◌&&◌, ◌||◌, ◌++◌, ℕ, Bool, true, false, cond, List, []}
 use Rattle.std.proofs.Common.{◌∷◌, length, map, Option, None, Some, option_map, refl, sym, ap, ◌∙◌}
 use Rattle.std.proofs.Common.{eq-eqb}
 use Rattle.std.proofs.lemmas.List.{length-map}
-use Rattle.listing.specs.Tree.{Tree, path_at}
+use Rattle.engine.specs.Tree.{Tree, path_at}
 use Rattle.std.specs.Prelude.{find, is_some, unwrap_or}
 use Rattle.std.specs.List.{list_all}
 use Rattle.std.specs.Map.{lookup}
@@ -11,13 +11,13 @@ use Rattle.std.specs.Str.{bytes_eq}
 use Rattle.std.proofs.lemmas.Bool.{true≢false}
 use Rattle.faults.specs.Answers.{option_or}
 use Rattle.faults.specs.Bytes.{Text, is_among}
-use Rattle.listing.proofs.Settings.{eq_flip, same_text}
+use Rattle.engine.proofs.Settings.{eq_flip, same_text}
 use Rattle.package_record.specs.Content.{NamedFile}
 use Rattle.protocol.specs.Given.{Given}
 use Rattle.protocol.specs.Jobs.{are_given, files_for}
 use Rattle.member.specs.inside.Packages.{files_at, have_files}
 
--- what stands at the end is found where nothing before it is
+-- an element at the end is found if there is none before it
 found_behind : {X : Type 0} (test : Text → Bool) (es : List (Text × X)) (path : Text) (x : X)
     → lookup test (es ++ (path, x) ∷ []) ≡ option_or (lookup test es)
     (cond (test path) (Some x) None)
@@ -35,7 +35,7 @@ module _ (given : Given) (path : Text) (files : List NamedFile) where
   abbrev more : Given
   more = given ++ (path, files) ∷ []
 
-  -- files for a path that has some change nothing
+  -- files for a path that has some already change nothing
   pub given_again : is_some (files_at given path) ≡ true → (q : Text)
       → files_at more q ≡ files_at given q
   given_again has q =
@@ -57,7 +57,7 @@ module _ (given : Given) (path : Text) (files : List NamedFile) where
           some_before (files_at given q) (Some files)
           (ap (λ t. is_some (files_at given t)) (same_text q path e) ∙ has)
 
-  -- the first files for a path are those that are found
+  -- the first files for a path are found
   pub given_first : is_some (files_at given path) ≡ false → (q : Text)
       → files_at more q ≡ cond (bytes_eq path q) (Some files) (files_at given q)
   given_first none q =
@@ -82,7 +82,7 @@ module _ (given : Given) (path : Text) (files : List NamedFile) where
           is_none (files_at given q) (Some files)
           (ap (λ t. is_some (files_at given t)) (sym (same_text path q e)) ∙ none)
 
--- the files that are found for a path are those of the first that has it
+-- the files found for a path are those of its first occurrence
 found_files : (given : Given) (path : Text)
     → option_map (λ (g : Text × List NamedFile). g.1) (find (λ g. bytes_eq g.0 path) given)
     ≡ files_at given path
@@ -118,7 +118,7 @@ is_given (g ∷ gs) path =
     by_test true rest = refl
     by_test false rest = rest
 
--- files are given for just the packages where each is found, and they are as many
+-- files are given for exactly these packages if each has files, and the numbers agree
 all_given : (tree : Tree) (given : Given) (ps : List ℕ)
     → list_all (is_among (map (λ g. g.0) given)) (map (path_at tree) ps)
     ≡ have_files tree (files_at given) ps

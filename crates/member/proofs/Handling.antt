@@ -1,4 +1,4 @@
--- What a call leaves that was to prepare a step and take it, where it prepared none.
+-- The result of preparing a step and taking it, if none was prepared.
 use Rattle.std.proofs.Common.{◌≡◌, ◌∙◌, Result, Ok, Err, ⊎_elim, ap, inl, inr, refl}
 use Rattle.protocol.specs.Answers.{Answer}
 use Rattle.protocol.specs.State.{State}
@@ -11,7 +11,7 @@ none_taken : (s : State) (right : Result Answer Refusal) (e : Refusal) → s ≡
 none_taken s (Ok a) e = refl
 none_taken s (Err f) e = refl
 
--- where none is prepared, the member stays
+-- if none is prepared, the member is unchanged
 pub refused_so : (old new : State) (input : Input) (e : Refusal) → HasAnswered old input (Err e)
     → new ≡ old → HasHandled old new input (Err e)
 refused_so old new input e answered same = record {

@@ -1,15 +1,15 @@
--- What a member prepares for a message is the answer of the theory's member.
+-- The step that a member prepares for a message is the answer of the abstract member.
 use Rattle.std.proofs.Common.{◌≡◌, ◌==◌, ◌&&◌, ◌∙◌, not, ℕ, true, false, List, []}
 use Rattle.std.proofs.Common.{◌∷◌, Option, Some, None, ap, length, option_map, refl, subst, sym}
 use Rattle.std.proofs.Common.{if◌then◌else◌}
 use Rattle.std.proofs.lemmas.Bool.{cond_both, cond-true, eq-eqb, true≢false}
 use Rattle.std.specs.Prelude.{is_some}
-use Rattle.agreement.specs.Claims.{is_above, is_below, is_promised}
-use Rattle.agreement.specs.Member as members
-use Rattle.agreement.specs.Step.{Outcome, on_agreed, on_ask, on_offer, on_propose}
-use Rattle.agreement.specs.Step.{still}
-use Rattle.agreement.specs.Votes.{Ballot, ballot, is_voted}
-use Rattle.agreement.specs.declared.claim.Claim.{Claim}
+use Rattle.claims.specs.Claims.{is_above, is_below, is_promised}
+use Rattle.claims.specs.Member as members
+use Rattle.claims.specs.Step.{Outcome, on_agreed, on_ask, on_offer, on_propose}
+use Rattle.claims.specs.Step.{still}
+use Rattle.claims.specs.Votes.{Ballot, ballot, is_voted}
+use Rattle.claims.specs.declared.claim.Claim.{Claim}
 use Rattle.ballots.specs.InTheAgreement.{IsStepOf, IsVoter}
 use Rattle.ballots.specs.Pledge.{Pledge}
 use Rattle.ballots.specs.declared.message.Body.TheVariants as bodies
@@ -32,7 +32,7 @@ use Rattle.member.proofs.SameStep.{claim_kept, job_kept, voter_makes}
 
 -- ---- offers and proposals
 
--- an offer leaves the stage
+-- an offer keeps the stage
 offer_stays : (me : ℕ) (x : members.Member Value) (c : Claim)
     → (on_offer me x c).member.stage ≡ x.stage
 offer_stays me x c =
@@ -111,7 +111,7 @@ saying_makes s u to o p is stage quiet says sends = record {
         ∙ sym (ap (λ t. claim_then s.claim u (host_in s.claim) (progress_of (length s.weights) t))
         stage ∙ claim_kept s u is)
 
--- where nothing happens, nothing is prepared
+-- if nothing happens, the step is empty
 pub nothing_makes : (s : State) (u : ℕ) (to : List ℕ) (o : Outcome Value) (p : Prepared)
     → IsMember s → o ≡ still (view s u) → IsSaying p → p.sends ≡ []
     → Makes s (answered s u (host_in s.claim) to o) p
@@ -119,20 +119,20 @@ nothing_makes s u to o p is same says sends =
     subst (λ o. Makes s (answered s u (host_in s.claim) to o) p) (sym same)
     (saying_makes s u to (still (view s u)) p is refl refl says sends)
 
--- a refusal says nothing
+-- a refusal sends nothing
 pub refusal_passes : (s : State) (u from : ℕ) (c promised : Claim) (p : Prepared) → IsMember s
     → IsSaying p → p.sends ≡ [] → Makes s (hears s u from (bodies.Nay c promised)) p
 refusal_passes s u from c promised p is says sends =
     nothing_makes s u [] (still (view s u)) p is refl says sends
 
--- ---- what is agreed
+-- ---- the agreed build
 
--- nothing is held where no test finds it
+-- nothing is held if the test finds nothing
 pub none_held : (h : Option Value) → is_some h ≡ false → h ≡ None
 none_held None e = refl
 none_held (Some v) e = absurd (true≢false e)
 
--- something is, where it does
+-- something is held if it does
 pub some_held : (h : Option Value) → is_some h ≡ true → (v : Value) × (h ≡ Some v)
 some_held None e = absurd (true≢false (sym e))
 some_held (Some v) e = (v, refl)
@@ -145,7 +145,7 @@ agreed_again s u v w p is held says sends =
     nothing_makes s u [] (on_agreed (view s u) (facts_at s u).held v) p is
     (ap (λ h. on_agreed (view s u) h v) held) says sends
 
--- the claim for the unit is done with
+-- the claim for the unit ends
 pub claim_ends : (claim : Option OpenClaim) (o : OpenClaim) (u : ℕ) (change : ClaimChange)
     → claim ≡ Some o → o.unit ≡ u → change ≡ Ends → changed change claim ≡ dropped claim u
 claim_ends claim o u change at unit ends =
@@ -161,7 +161,7 @@ claim_stays (Some o) u change other stays =
     ap (λ change. changed change (Some o)) stays
     ∙ sym (ap (λ b. if b then None else Some o) other)
 
--- what is not held yet is held, and the unit's claim is done with
+-- a build that is not held yet is held, and the unit's claim ends
 pub agreed_makes : (s : State) (u : ℕ) (v : Value) (p : Prepared) → (facts_at s u).held ≡ None
     → p.note ≡ Some (on_unit s u (facts.Held v)) → p.sends ≡ [] → p.job ≡ None
     → changed p.change s.claim ≡ dropped s.claim u
@@ -176,7 +176,7 @@ agreed_makes s u v p held note sends job claim weighed =
 
 -- ---- questions
 
--- who holds nothing says nothing
+-- a member that holds nothing sends nothing
 pub question_passes : (s : State) (u from : ℕ) (p : Prepared) → IsMember s
     → (facts_at s u).held ≡ None → IsSaying p → p.sends ≡ []
     → Makes s (hears s u from bodies.Ask) p
@@ -184,7 +184,7 @@ question_passes s u from p is held says sends =
     nothing_makes s u (from ∷ []) (on_ask (view s u) (facts_at s u).held) p is
     (ap (on_ask (view s u)) held) says sends
 
--- who holds a build tells it
+-- a member that holds a build sends it
 pub question_makes : (s : State) (u from : ℕ) (v : Value) (p : Prepared) → IsMember s
     → (facts_at s u).held ≡ Some v → IsSaying p
     → p.sends ≡ sent_to (Some (message_of s u (bodies.Agreed v))) (from ∷ [])

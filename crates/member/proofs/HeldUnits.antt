@@ -1,4 +1,4 @@
--- The engine of what is held, once one more fact is known.
+-- The engine after one more fact is known.
 use Rattle.std.proofs.Common.{◌≡◌, ◌==◌, ◌<◌, ◌&&◌, ◌||◌, ℕ, Bool, true, false, List, [], ◌∷◌}
 use Rattle.std.proofs.Common.{Option, Some, None, eqb-true, filter, inl, inr, length, nat_eq, refl}
 use Rattle.std.proofs.Common.{sym, ap, ◌∙◌}
@@ -11,7 +11,7 @@ use Rattle.std.specs.Ordering.{nat_cmp}
 use Rattle.std.proofs.lemmas.Bool.{cases_eq, eq-eqb, true≢false}
 use Rattle.std.proofs.lemmas.List.{get_or-set_other, get_or-set_same}
 use Rattle.std.proofs.lemmas.List.Quantifiers.{position-Some}
-use Rattle.agreement.specs.Member.{Facts, first, no_facts, noted}
+use Rattle.claims.specs.Member.{Facts, first, no_facts, noted}
 use Rattle.ballots.specs.InTheAgreement.{note_of}
 use Rattle.ballots.specs.declared.message.Fact.{Fact}
 use Rattle.ballots.specs.declared.message.Fact.TheVariants.{Opened, Promised, Voted, Held}
@@ -25,7 +25,7 @@ use Rattle.protocol.specs.State.{State, Value, holds_package, is_held_any, noted
 use Rattle.member.specs.shared.Fields.{engine_with}
 use Rattle.member.specs.inside.Units.{agreed_too, is_held_fact, with_all}
 
--- the set with these has them, and what it had
+-- the set with these has them, and its previous elements
 has_all : (s : finset.FinSet nat_cmp) (ps : List ℕ) (q : ℕ)
     → finset.contains (with_all s ps) q ≡ (is_in ps q || finset.contains s q)
 has_all s [] q = refl
@@ -51,7 +51,7 @@ has_all s (p ∷ ps) q =
         (λ e. eq-eqb p q (sym (eqb-true q p e)))
         (λ e. eq-eqb q p (sym (eqb-true p q e)))
 
--- a member that knows this
+-- a member with this knowledge
 abbrev knowing : Division → List (Facts Value) → State
 knowing d facts = record { division = d; weights = []; me = 0; facts = facts; claim = None }
 
@@ -63,7 +63,7 @@ agreed_is d facts q =
     let holds = holds_package (knowing d facts) in
     contains-from_list_nat (filter holds (positions d.tree)) q ∙ in_kept holds (positions d.tree) q
 
--- engines that have the same as agreed are one
+-- engines with the same agreed packages are equal
 one_engine : (d : Division) (facts later : List (Facts Value))
     → ((q : ℕ) → holds_package (knowing d later) q ≡ holds_package (knowing d facts) q)
     → engine_with d later ≡ engine_with d facts
@@ -76,22 +76,22 @@ one_engine d facts later same =
 
 module _ (d : Division) (facts : List (Facts Value)) (u : ℕ) (n : Note Value)
     (within : u < length facts) where
-  -- what is known with the note
+  -- the knowledge after the note
   abbrev later : List (Facts Value)
   later = noted_at (Some u) facts n
 
-  -- another unit is held as before
+  -- another unit is held if it was before
   other_held : (v : ℕ) → (v ≡ u → ⊥)
       → is_held_any (knowing d later) (Some v) ≡ is_held_any (knowing d facts) (Some v)
   other_held v other =
       ap (λ (f : Facts Value). is_some f.held) (get_or-set_other facts u v _ no_facts other)
 
-  -- the unit is known with the note
+  -- the facts of the unit after the note
   known_then : slice_index_or later u no_facts
       ≡ noted (slice_index_or facts u no_facts) (note_of n.fact)
   known_then = get_or-set_same facts u _ no_facts within
 
-  -- a fact that is no build leaves what is held
+  -- a fact without a build doesn't change what is held
   held_as_before : (fact : Fact Value) (f : Facts Value) → is_held_fact fact ≡ false
       → is_some (noted f (note_of fact)).held ≡ is_some f.held
   held_as_before (Opened round) f e = refl
@@ -99,7 +99,7 @@ module _ (d : Division) (facts : List (Facts Value)) (u : ℕ) (n : Note Value)
   held_as_before (Voted c v) f e = refl
   held_as_before (Held v) f e = absurd (true≢false e)
 
-  -- and one that is leaves it held
+  -- a fact that a build is held does
   held_then : (fact : Fact Value) (f : Facts Value) → is_held_fact fact ≡ true
       → is_some (noted f (note_of fact)).held ≡ true
   held_then (Opened round) f e = absurd (true≢false (sym e))
@@ -111,7 +111,7 @@ module _ (d : Division) (facts : List (Facts Value)) (u : ℕ) (n : Note Value)
       by_held None = refl
       by_held (Some w) = refl
 
-  -- then the engine stays
+  -- in the first case the engine is unchanged
   pub engine_stays : is_held_fact n.fact ≡ false → engine_with d later ≡ engine_with d facts
   engine_stays quiet = one_engine d facts later (λ q. by_number (number_of d q))
     where
@@ -128,7 +128,7 @@ module _ (d : Division) (facts : List (Facts Value)) (u : ℕ) (n : Note Value)
             | inr other ↦ other_held v other
           ]
 
-  -- else it has the unit's packages, too
+  -- in the second it also has the unit's packages
   pub engine_agrees : IsDivision d → u < length d.units → is_held_fact n.fact ≡ true
       → agreed_too (engine_with d facts) (unit_at d u).packages ≡ engine_with d later
   engine_agrees is lt held =

@@ -1,4 +1,4 @@
--- Digests of records that are kept.
+-- Cached digests of records.
 use Rattle.std.proofs.Common.{◌≡◌, ◌<◌, ◌∙◌, ℕ, List, Option, None, Some, ap, inl, inr, length, replicate, set, subst, sym}
 use Rattle.std.specs.List.{slice_index_or}
 use Rattle.std.specs.Option.{is_some, unwrap_or}
@@ -7,7 +7,7 @@ use Rattle.std.proofs.lemmas.List.{get_or-replicate, get_or-set_other, get_or-se
 use Rattle.package_record.specs.Content.{Content}
 use Rattle.member.specs.inside.Digests.{AreDigests, digest_of}
 
--- none is kept at first
+-- nothing is cached at first
 pub none_kept : (n : ℕ) (rs : List Content) → n ≡ length rs → AreDigests (replicate n None) rs
 none_kept n rs many = record {
   each = length-replicate n None ∙ many;
@@ -16,7 +16,7 @@ none_kept n rs many = record {
       (sym (get_or-replicate n place None other (subst (λ m. place < m) (length-replicate n None) within)) ∙ at)));
 }
 
--- one more is kept
+-- one more is cached
 pub one_kept : (ds : List (Option (List ℕ))) (rs : List Content) (place : ℕ) (digest : List ℕ)
     → AreDigests ds rs → place < length rs
     → ((r : Content) → digest ≡ digest_of (slice_index_or rs place r))

@@ -7,7 +7,7 @@ use Rattle.std.specs.Str.{bytes_eq}
 use Rattle.std.proofs.lemmas.List.{get_or-map, map-set}
 use Rattle.std.proofs.lemmas.List.Quantifiers.{position-Some}
 use Rattle.faults.specs.Bytes.{Text}
-use Rattle.agreement.specs.Member.{Facts, no_facts, noted}
+use Rattle.claims.specs.Member.{Facts, no_facts, noted}
 use Rattle.ballots.specs.InTheAgreement.{note_of}
 use Rattle.ballots.specs.declared.message.Fact.{Fact}
 use Rattle.ballots.specs.declared.message.Note.{Note}
@@ -17,7 +17,7 @@ use Rattle.protocol.specs.State.{Value, noted_at}
 use Rattle.member.specs.shared.Fields.{facts_of_known}
 use Rattle.member.specs.declared.known.Known.{Known}
 
--- what is named is a unit
+-- a named unit exists
 pub named_within : (d : Division) (path : Text) (u : ℕ) → Some u ≡ number_named d path
     → u < length d.units
 named_within d path u named =
@@ -34,7 +34,7 @@ module _ (d : Division) (known : List Known) (path : Text) (fact : Fact Value) (
   abbrev note : Note Value
   note = record { path = path; fact = fact }
 
-  -- the unit is known with it
+  -- the facts of the unit include it
   known_so : facts_of_known new ≡ noted (slice_index_or facts u no_facts) (note_of fact)
   known_so =
       kept

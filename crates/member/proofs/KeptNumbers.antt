@@ -9,7 +9,7 @@ use Rattle.std.proofs.lemmas.List.Sums.{count_by-le-length, length-filter}
 use Rattle.engine.proofs.Lists.{filter_next}
 
 module _ (P : ℕ → Bool) (n : ℕ) (xs : List ℕ) (are : xs ≡ filter P (range_with_len 0 n)) where
-  -- they are no more than there are numbers
+  -- there are at most n of them
   pub no_more : length xs ≤ n
   no_more =
       let same = ap length are in
@@ -18,14 +18,14 @@ module _ (P : ℕ → Bool) (n : ℕ) (xs : List ℕ) (are : xs ≡ filter P (ra
       let all = length-range_with_len 0 n in
       omega (arith, same, kept, few, all)
 
-  -- the next one, where it passes
+  -- the next number, if it passes
   pub one_more_kept : P n ≡ true → xs ++ n ∷ [] ≡ filter P (range_with_len 0 (n + 1))
   one_more_kept passes =
       ap (λ ys. ys ++ n ∷ []) are
       ∙ sym (filter_next P n
       ∙ ap (λ b. filter P (range_with_len 0 n) ++ cond b (n ∷ []) []) passes)
 
-  -- and where it does not
+  -- the next number, if it doesn't pass
   pub none_more_kept : P n ≡ false → xs ≡ filter P (range_with_len 0 (n + 1))
   none_more_kept fails =
       are

@@ -12,7 +12,7 @@ use Rattle.faults.proofs.Members.{contains_first, contains_later}
 use Rattle.claims.specs.Claim.{IsClaim}
 use Rattle.claims.specs.Deps.{is_ascending}
 use Rattle.claims.specs.Job.{Task}
-use Rattle.listing.specs.Tree.{Tree, path_at, run_at}
+use Rattle.engine.specs.Tree.{Tree, path_at, run_at}
 use Rattle.pkgpath.specs.PkgPath.{without_subpackage}
 use Rattle.package_record.specs.Content.{Content}
 use Rattle.package_record.specs.Making.{build_fault}
@@ -33,7 +33,7 @@ use Rattle.protocol.proofs.PackageOrder.{in_order_ascends}
 
 -- ---- the claim of a job
 
--- the job of the member's claim is under a claim that it can have made
+-- the claim of the job is one that a member can have made
 pub job_is_claimed : (s : State) (u : ℕ) (job : Task) → IsMember s → job_at s u ≡ Some job
     → IsClaim job.claim
 job_is_claimed s u job is e = by_claim s.claim refl e
@@ -60,7 +60,7 @@ job_is_claimed s u job is e = by_claim s.claim refl e
 abbrev pub both : ℕ → Option Task → Option (ℕ × Task)
 both u = option_map (λ job. (u, job))
 
--- and so is that of the unit whose build it waits for
+-- and so is that of the job whose build is awaited
 pub waiting_is_claimed : (s : State) (path : Text) (u : ℕ) (job : Task) → IsMember s
     → waiting_for s path ≡ Some (u, job) → IsClaim job.claim
 waiting_is_claimed s path u job is e = by_unit (unit_in s path) e
@@ -134,7 +134,7 @@ module _ (tree : Tree) (files : FilesByPath) where
 
 -- ---- the records
 
--- the record of what was made, by the job
+-- the record of a package, made by the job
 abbrev record_of : Task → Made → Content
 record_of job m = record {
   path = m.path;
@@ -180,7 +180,7 @@ module _ (s : State) (u : ℕ) (job : Task) (given : Given) where
       ap (λ t. unless_fault (option_or (first_that_applies ((not t, OtherPackages) ∷ []))
       (option_map BadFiles (build_fault (build_by s u job given)))) (build_by s u job given)) e
 
-  -- of the unit's own what is wrong with the files is
+  -- with the unit's own files, the result is a build or their fault
   made_of_given : are_given (paths_at s u) given ≡ true
       → made_by s u job given
       ≡ unless_fault (option_map BadFiles (build_fault (build_by s u job given)))

@@ -1,4 +1,4 @@
--- The packages that are made so far, one after the other.
+-- Making packages, one after the other.
 use Rattle.std.proofs.Common.{◌≡◌, ◌+◌, ◌<◌, ◌++◌, ℕ, suc, Bool, true, false, List, []}
 use Rattle.std.proofs.Common.{◌∷◌, length, map, take, Option, None, Less, Equal, Greater, zero}
 use Rattle.std.proofs.Common.{refl, sym, ap, ◌∙◌, arith}
@@ -14,11 +14,11 @@ use Rattle.std.proofs.lemmas.Map.Text.{is_eq-slice_cmp}
 use Rattle.faults.specs.Bytes.{Text}
 use Rattle.faults.specs.Pieces.{text_cmp}
 use Rattle.claims.specs.Deps.{is_ascending}
-use Rattle.listing.specs.Tree.{Tree, path_at}
+use Rattle.engine.specs.Tree.{Tree, path_at}
 use Rattle.member.specs.inside.Packages.{Made, made_at, have_files}
 use Rattle.member.specs.inside.Packages.{FilesByPath}
 
--- what passes for all passes for each
+-- what holds for all holds for each
 at_each : (test : Text → Bool) (tree : Tree) (ps : List ℕ) (k : ℕ)
     → list_all test (map (path_at tree) ps) ≡ true → k < length ps
     → test (path_at tree (slice_index_or ps k 0)) ≡ true
@@ -27,7 +27,7 @@ at_each test tree (p ∷ ps) zero all lt = (and_parts (test (path_at tree p)) _ 
 at_each test tree (p ∷ ps) (suc k) all lt =
     at_each test tree ps k (and_parts (test (path_at tree p)) _ all).1 (omega (arith, lt))
 
--- a text below another is another
+-- a text below another differs from it
 below_is_other : (t u : Text) → is_lt (text_cmp t u) ≡ true → bytes_eq t u ≡ false
 below_is_other t u below = sym (is_eq-slice_cmp t u) ∙ by (text_cmp t u) below
   where
@@ -36,7 +36,7 @@ below_is_other t u below = sym (is_eq-slice_cmp t u) ∙ by (text_cmp t u) below
     by Equal e = absurd (true≢false (sym e))
     by Greater e = refl
 
--- packages in order of path have each a path of its own
+-- packages in order of path have different paths
 pub apart : (tree : Tree) (ps : List ℕ) (i k : ℕ) → is_ascending (map (path_at tree) ps) ≡ true
     → i < k → k < length ps
     → bytes_eq (path_at tree (slice_index_or ps i 0)) (path_at tree (slice_index_or ps k 0))
@@ -76,7 +76,7 @@ module _ (tree : Tree) (files : FilesByPath) (ps : List ℕ) (i : ℕ) (lt : i <
       ∙ (sym (map-append (made_at tree files) (take i ps) (slice_index_or ps i 0 ∷ []))
       ∙ ap (map (made_at tree files)) (sym (take_more ps i 0 lt)))
 
-  -- without files for one they are not there for all
+  -- if one has no files, not all have
   pub not_found : files path ≡ None → have_files tree files ps ≡ false
   not_found none = by (have_files tree files ps) refl
     where

@@ -1,4 +1,4 @@
--- Which unit has the name that a path is.
+-- Which unit has a name.
 use Rattle.std.proofs.Common.{◌≡◌, ◌<◌, ℕ, Bool, true, false, List, [], Option, Some, None, arith}
 use Rattle.std.proofs.Common.{length, position, refl, sym, ap, ◌∙◌}
 use Rattle.std.specs.Prelude.{cond, nat_lt, option_and_then, unwrap_or}
@@ -9,13 +9,13 @@ use Rattle.std.proofs.lemmas.List.Quantifiers.{position-Some}
 use Rattle.std.proofs.lemmas.List.Sums.{fails_before_first}
 use Rattle.faults.specs.Answers.{option_or}
 use Rattle.faults.specs.Bytes.{Text}
-use Rattle.listing.specs.Tree.{position_of}
+use Rattle.engine.specs.Tree.{position_of}
 use Rattle.engine.specs.Division.{Division, no_unit, number_found, number_named, number_of, unit_at}
 use Rattle.engine.specs.Units.{Unit}
 use Rattle.engine.proofs.Places.{equal_bytes, same_bytes}
 use Rattle.protocol.proofs.Asked.{unit_is_one}
 
--- where nothing is found, nothing passes
+-- if nothing is found, nothing passes
 nowhere : {X : Type 0} (p : X → Bool) (xs : List X) (k : ℕ) (d : X) → position p xs ≡ None
     → k < length xs → p (slice_index_or xs k d) ≡ false
 nowhere p xs k d none lt = by_test (nat_lt (position_or_len p xs) (length xs)) refl none
@@ -32,13 +32,13 @@ module _ (d : Division) (path : Text) where
   abbrev of_package : Option ℕ
   of_package = option_and_then (number_of d) (position_of d.tree path)
 
-  -- what a path finds is a unit
+  -- the unit that a path finds exists
   pub found_within : (u : ℕ) → number_found d path ≡ Some u → u < length d.units
   found_within u found =
       unit_is_one (record { division = d; weights = []; me = 0; facts = []; claim = None })
       path u found
 
-  -- and what it names is what it finds
+  -- and if it names a unit, that is the one that it finds
   pub named_found : (u v : ℕ) → number_found d path ≡ Some u → number_named d path ≡ Some v
       → v ≡ u
   named_found u v found named =
@@ -57,7 +57,7 @@ module _ (d : Division) (path : Text) where
           named (found_within u found))
           ∙ equal_bytes (unit_at d u).name path same))
 
-  -- one of another name is found by a package
+  -- a unit with another name is found by one of its packages
   pub named_not : (u : ℕ) → number_found d path ≡ Some u → ((unit_at d u).name ≡ path → ⊥)
       → number_named d path ≡ None
   named_not u found other = by_name (number_named d path) refl

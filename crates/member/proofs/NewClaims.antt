@@ -1,11 +1,11 @@
--- Claims and questions, by what their unit is.
+-- Claims and questions, by the state of their unit.
 use Rattle.std.proofs.Common.{◌≡◌, ℕ, suc, max, Bool, true, false, [], ◌∷◌, Option, Some}
 use Rattle.std.proofs.Common.{None, Result, Ok, Err, refl, sym, subst, ap, ◌∙◌, inr, nat_le}
 use Rattle.std.specs.Prelude.{is_some}
 use Rattle.std.proofs.lemmas.Bool.{false≢true}
 use Rattle.faults.specs.Answers.{first_that_applies}
 use Rattle.faults.specs.Bytes.{Text}
-use Rattle.agreement.specs.Step.{on_inquire, on_start}
+use Rattle.claims.specs.Step.{on_inquire, on_start}
 use Rattle.claims.specs.Claim.{greatest_round}
 use Rattle.engine.specs.declared.Letter.{Letter}
 use Rattle.engine.specs.declared.Letter.TheVariants as letters
@@ -24,7 +24,7 @@ use Rattle.member.specs.Prepared.{Prepared}
 use Rattle.member.specs.inside.Steps.{IsPrepared, Prepares, opened_in}
 use Rattle.member.proofs.SameStep.{claim_kept, job_kept}
 
--- what is not there is nothing
+-- the option is None
 none_there : {X : Type 0} (o : Option X) → is_some o ≡ false → o ≡ None
 none_there None e = refl
 none_there (Some x) e = absurd (false≢true (sym e))
@@ -174,7 +174,7 @@ module _ (s : State) (u : ℕ) where
         claim = claim_kept s u is i;
       })
 
--- only T says that a unit waits
+-- a unit waits only with the letter T
 pub waits_not : (letter : Letter) → (letter ≡ letters.T → ⊥) → is_waiting letter ≡ false
 waits_not letters.T other = absurd (other refl)
 waits_not letters.Q other = refl

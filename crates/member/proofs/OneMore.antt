@@ -1,4 +1,4 @@
--- What is made of the first items of a list, and of one more.
+-- Results for the first items of a list, extended by one item.
 use Rattle.std.proofs.Common.{◌≡◌, ◌<◌, ◌+◌, ◌++◌, ◌∷◌, ◌∙◌, ℕ, List, [], ap, length, map, take}
 use Rattle.std.proofs.Common.{slice_index_or}
 use Rattle.std.proofs.lemmas.List.{map-append, take_more}

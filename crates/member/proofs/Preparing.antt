@@ -1,4 +1,4 @@
--- Steps and refusals that are right.
+-- Right steps and refusals.
 use Rattle.std.proofs.Common.{◌≡◌, List, None, Result, Ok, Err, refl, sym, ap, ◌∙◌}
 use Rattle.std.proofs.Common.{inl, inr, subst}
 use Rattle.protocol.specs.State.{State}
@@ -11,11 +11,11 @@ use Rattle.member.specs.declared.step.ClaimChange.TheVariants.{Stays}
 use Rattle.member.specs.inside.Steps.{Makes, Prepares}
 
 module _ (s : State) (right : Result Answer Refusal) where
-  -- the refusal that is right
+  -- the right refusal
   pub refused : (e : Refusal) → right ≡ Err e → Prepares s right (Err e)
   refused e is = record { given = inr is; weighed = tt }
 
-  -- memory may run out whatever is right
+  -- memory may run out in any case
   pub no_memory : Prepares s right (Err refusals.Memory)
   no_memory = record { given = inl refl; weighed = tt }
 
@@ -25,7 +25,7 @@ module _ (s : State) (right : Result Answer Refusal) where
   made_so a step is made =
       record { given = is ∙ ap (λ b. Ok b) (sym made.is); weighed = made.weighed }
 
--- a step that sends this and leaves the claim
+-- a step that sends this and keeps the claim
 pub says_so : (s : State) (step : Prepared) (sends : List Send) → step.note ≡ None
     → step.sends ≡ sends → step.job ≡ None → step.change ≡ Stays
     → Makes s (record { note = None; sends = sends; job = None; claim = s.claim }) step

@@ -1,10 +1,10 @@
--- A member that takes the notes of a log, one after the other.
+-- A member that restores the notes of a log, one after the other.
 use Rattle.std.proofs.Common.{◌≡◌, ◌++◌, All, List, [], ◌∷◌, Some, None, length, refl}
 use Rattle.std.proofs.Common.{sym, ap, subst, ◌∙◌, map}
 use Rattle.std.specs.Prelude.{fold, option_and_then, option_map}
 use Rattle.std.proofs.lemmas.List.{length-map}
 use Rattle.std.proofs.lemmas.List.Sums.{fold-append}
-use Rattle.agreement.specs.Member.{Facts}
+use Rattle.claims.specs.Member.{Facts}
 use Rattle.ballots.specs.declared.message.Note.{Note}
 use Rattle.engine.specs.Division.{Division}
 use Rattle.protocol.specs.State.{State, Value, facts_then}
@@ -17,24 +17,24 @@ use Rattle.member.specs.OpenClaims.{open_of}
 use Rattle.member.specs.shared.Fields.{IsKept, engine_with, facts_of_known, state_of}
 use Rattle.member.specs.declared.member.Member.TheInside.{Inside}
 
--- what is known with these notes, too
+-- the facts after these notes
 abbrev pub noted_all : Division → List (Facts Value) → List (Note Value) → List (Facts Value)
 noted_all d facts notes = fold (λ facts n. facts_then d facts (Some n)) facts notes
 
--- and with one more
+-- and after one more
 pub one_more : (d : Division) (facts : List (Facts Value)) (notes : List (Note Value))
     (n : Note Value)
     → noted_all d facts (notes ++ n ∷ []) ≡ facts_then d (noted_all d facts notes) (Some n)
 one_more d facts notes n = fold-append (λ facts n. facts_then d facts (Some n)) facts notes (n ∷ [])
 
--- as many facts as before
+-- the number of facts is unchanged
 pub each_noted : (d : Division) (facts : List (Facts Value)) (notes : List (Note Value))
     → length (noted_all d facts notes) ≡ length facts
 each_noted d facts [] = refl
 each_noted d facts (n ∷ notes) =
     each_noted d (facts_then d facts (Some n)) notes ∙ each_then d facts (Some n)
 
--- who voted has promised
+-- a member that voted has promised
 all_pledged : (d : Division) (facts : List (Facts Value)) (notes : List (Note Value))
     → All Pledged facts → All Pledged (noted_all d facts notes)
 all_pledged d facts [] are = are
@@ -53,8 +53,8 @@ restored_member s notes is = record {
   claim = λ o e. absurd (let no : None ≡ Some o = e in cc);
 }
 
--- While the notes are taken, no claim is open, what is known is what these notes leave, and the
--- engine has what is held by that.
+-- While the notes are restored, no claim is open, the facts are those of these notes, and the
+-- engine has what they hold.
 pub record IsRestoring (s : State) (m : Inside) (notes : List (Note Value)) : Type 0 where
   pub division : m.units ≡ s.division
   pub weights : m.weights ≡ s.weights
@@ -67,7 +67,7 @@ pub record IsRestoring (s : State) (m : Inside) (notes : List (Note Value)) : Ty
   pub engine : m.engine ≡ engine_with m.units (map facts_of_known m.known.items)
 
 module _ (s : State) (m : Inside) (notes : List (Note Value)) (are : IsRestoring s m notes) where
-  -- once all notes are taken, the member is what they restore
+  -- after all notes, the state is the restored one
   pub state_restored : state_of m ≡ restored s notes
   state_restored = λ i. record {
     division = are.division i;
@@ -85,7 +85,7 @@ module _ (s : State) (m : Inside) (notes : List (Note Value)) (are : IsRestoring
       ∙ (each_noted s.division s.facts notes
       ∙ (is.each ∙ ap (λ (d : Division). length d.units) (sym are.division))))
 
-  -- and its fields are those of one
+  -- and the fields are those of a member
   pub kept_restored : IsMember s → IsKept m
   kept_restored is = record {
     member = subst IsMember (sym state_restored) (restored_member s notes is);

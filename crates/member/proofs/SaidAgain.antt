@@ -1,10 +1,10 @@
--- What the open claim says again.
+-- What a nudge of the open claim repeats.
 use Rattle.std.proofs.Common.{◌≡◌, ◌<◌, ℕ, true, not, List, [], Option, Some, None}
 use Rattle.std.proofs.Common.{Result, Ok, Err, refl, sym, subst, ap, ◌∙◌, filter, length}
-use Rattle.agreement.specs.Step.{on_nudge}
-use Rattle.agreement.specs.Votes.{Ballot}
-use Rattle.agreement.specs.Member as members
-use Rattle.agreement.specs.declared.claim.Claim.{Claim}
+use Rattle.claims.specs.Step.{on_nudge}
+use Rattle.claims.specs.Votes.{Ballot}
+use Rattle.claims.specs.Member as members
+use Rattle.claims.specs.declared.claim.Claim.{Claim}
 use Rattle.ballots.specs.Support.{Support, set_of}
 use Rattle.ballots.specs.declared.message.Body.TheVariants as bodies
 use Rattle.protocol.specs.State.{OpenClaim, Progress, Gathering, Building, Voting, State, Value}
@@ -22,7 +22,7 @@ use Rattle.protocol.proofs.TheTheory.{named}
 use Rattle.engine.specs.declared.Letter.TheVariants as letters
 use Rattle.std.specs.Prelude.{option_and_then, option_map}
 use Rattle.std.specs.List.{range_with_len}
-use Rattle.agreement.specs.Votes.{ballot, report_of}
+use Rattle.claims.specs.Votes.{ballot, report_of}
 use Rattle.ballots.specs.declared.claimer.Claimer.{Claimer}
 use Rattle.ballots.specs.declared.claimer.Claimer.TheVariants as claimers
 use Rattle.member.specs.OpenClaims.{IsWeighedBy, joined_in, open_of, progress_of_claimer}
@@ -35,7 +35,7 @@ use Rattle.member.specs.declared.step.ClaimChange.TheVariants.{Stays}
 use Rattle.member.proofs.Preparing.{made_so, says_so}
 use Rattle.member.proofs.SameStep.{claim_kept}
 
--- a nudge is answered so
+-- the answer to a nudge
 pub nudge_prepared : (s : State) (r : Result Prepared Refusal) → Prepares s (nudges s s.claim) r
     → IsPrepared s inputs.Nudge r
 nudge_prepared s r made = record {
@@ -52,7 +52,7 @@ pub no_claim : (s : State) → s.claim ≡ None → nudges s s.claim ≡ Err ref
 no_claim s none = ap (nudges s) none
 
 module _ (s : State) (o : OpenClaim) (is : IsMember s) (at : s.claim ≡ Some o) where
-  -- the claim that it leaves is the one that is open
+  -- the claim that is left is the open one
   stays : claim_then s.claim o.unit o.host (progress_of (length s.weights) (view s o.unit).stage)
       ≡ s.claim
   stays =
@@ -60,7 +60,7 @@ module _ (s : State) (o : OpenClaim) (is : IsMember s) (at : s.claim ≡ Some o)
       (progress_of (length s.weights) (view s o.unit).stage)) (sym at)
       ∙ claim_kept s o.unit is
 
-  -- the answer by how far the claim is
+  -- the answer, by the progress of the claim
   abbrev by_progress : members.Stage Value → Progress → Result Answer Refusal
   by_progress stage p =
       with_job (job_again s o p)
@@ -72,7 +72,7 @@ module _ (s : State) (o : OpenClaim) (is : IsMember s) (at : s.claim ≡ Some o)
       ∙ (ap (λ stage. by_progress stage o.progress) (stage_is s o at)
       ∙ ap (λ q. by_progress (stage_of q) q) e)
 
-  -- an offer goes to those that did not promise
+  -- the offer is sent to those that did not promise
   pub gathers_again : (c : Claim) (joined : List ℕ) (k : Option (Ballot Value))
       → o.progress ≡ Gathering c joined k
       → nudges s s.claim ≡ Ok (record {
@@ -107,7 +107,7 @@ module _ (s : State) (o : OpenClaim) (is : IsMember s) (at : s.claim ≡ Some o)
         claim = stays i;
       })
 
-  -- a proposal goes to those that did not vote
+  -- the proposal is sent to those that did not vote
   pub votes_again : (b : Ballot Value) (joined : List ℕ) → o.progress ≡ Voting b joined
       → nudges s s.claim ≡ Ok (record {
         note = None;
@@ -126,7 +126,7 @@ module _ (s : State) (o : OpenClaim) (is : IsMember s) (at : s.claim ≡ Some o)
         claim = stays i;
       })
 
--- those that the tally lacks are missing
+-- those that the tally doesn't have are missing
 pub missing_are : (s : State) (t : Support) → t.weights ≡ s.weights
     → ((k : ℕ) → set_of t k ≡ true → k < length s.weights)
     → missing s (joined_in t) ≡ filter (λ k. not (set_of t k)) (everyone s)

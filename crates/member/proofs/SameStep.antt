@@ -1,15 +1,15 @@
--- The step of a voter, and that of a claimer, make the answer that the theory's member gives.
+-- The step of a voter, and that of a claimer, are the answer of the abstract member.
 use Rattle.std.proofs.Common.{◌≡◌, ◌==◌, ◌<◌, ◌&&◌, not, ℕ, Bool, true, false, List, [], ◌∷◌}
 use Rattle.std.proofs.Common.{Option, Some, None, eqb-true, refl, sym, subst, ap, ◌∙◌, length}
 use Rattle.std.proofs.Common.{if◌then◌else◌, option_map}
 use Rattle.std.specs.Option.{ForSome}
 use Rattle.std.proofs.lemmas.Bool.{and_parts, cond-false, cond-true, eq-eqb, true≢false}
-use Rattle.agreement.specs.Member as members
-use Rattle.agreement.specs.Nodes as nodes
-use Rattle.agreement.specs.Step.{Outcome}
-use Rattle.agreement.specs.Quorums.{named_in}
-use Rattle.agreement.specs.Votes.{ballot, report_of}
-use Rattle.agreement.specs.declared.claim.Claim.{Claim}
+use Rattle.claims.specs.Member as members
+use Rattle.claims.specs.Nodes as nodes
+use Rattle.claims.specs.Step.{Outcome}
+use Rattle.claims.specs.Quorums.{named_in}
+use Rattle.claims.specs.Votes.{ballot, report_of}
+use Rattle.claims.specs.declared.claim.Claim.{Claim}
 use Rattle.ballots.specs.InTheAgreement.{is_building, note_of, said}
 use Rattle.ballots.specs.InTheAgreement.{claim_of, stage_then}
 use Rattle.ballots.specs.InTheAgreement.{claimer_then, weights_of}
@@ -42,7 +42,7 @@ use Rattle.member.specs.Prepared.{counted, moved}
 use Rattle.member.specs.inside.Counting.{on_unit, voter_prepared}
 use Rattle.member.specs.inside.Steps.{Makes}
 
--- ---- facts and bodies, back again
+-- ---- facts and bodies
 
 fact_again : (f : Fact Value) → fact_in (note_of f) ≡ f
 fact_again (facts.Opened round) = refl
@@ -63,13 +63,13 @@ body_again m (Agreed v) = refl
 body_again m Ask = refl
 body_again m (Nay c promised) = refl
 
--- the note on the unit
+-- the note of the fact about the unit
 pub note_again : (s : State) (u : ℕ) (note : Option (Fact Value))
     → option_map (note_at s u) (option_map note_of note) ≡ option_map (on_unit s u) note
 note_again s u None = refl
 note_again s u (Some f) = ap (λ g. Some (on_unit s u g)) (fact_again f)
 
--- what is said to these
+-- the messages to these receivers
 pub sends_again : (s : State) (u : ℕ) (to : List ℕ) (body : Body Value)
     → sends_of s u to (Some (said s.me body)) ≡ sent_to (Some (message_of s u body)) to
 sends_again s u to body = ap (λ b. sent_to (Some (message_of s u b)) to) (body_again s.me body)
@@ -94,7 +94,7 @@ kept_by n u (Some o) joined = by_test (u == o.unit) refl
         ∙ λ i. Some (record { unit = unit i; host = o.host; progress = o.progress })
     by_test false f = cond-false (u == o.unit) None (Some o) f
 
--- where the stage stays, so does the claim
+-- if the stage is unchanged, so is the claim
 pub claim_kept : (s : State) (u : ℕ) → IsMember s
     → claim_then s.claim u (host_in s.claim) (progress_of (length s.weights) (view s u).stage)
     ≡ s.claim
@@ -142,7 +142,7 @@ voter_makes s u to o note answer is stage noted sent = record {
 
 -- ---- a claimer's step
 
--- how far the claim is once it is counted
+-- the progress of the claim after the count
 pub counted_is : (n : ℕ) (o : Claimer Value) (c : ClaimerChange Value)
     → length (weights_of (claimer_then o c)) ≡ n → length (weights_of o) ≡ n
     → progress_of n (stage_then o c) ≡ counted c (progress_of_claimer o)
@@ -170,7 +170,7 @@ counted_is n (claimers.Gathering c t k) change.Ends after before = refl
 counted_is n (claimers.Building c w) change.Ends after before = refl
 counted_is n (claimers.Voting c v t) change.Ends after before = refl
 
--- the claim once it is counted is that of the theory's stage
+-- the claim after the count is that of the abstract stage
 pub moved_is : (s : State) (p : OpenClaim) (n : ℕ) (t : members.Stage Value) (q : Option Progress)
     → s.claim ≡ Some p → progress_of n t ≡ q
     → option_map (moved p) q ≡ claim_then s.claim p.unit (host_in s.claim) (progress_of n t)
@@ -184,7 +184,7 @@ moved_is s p n t q at e =
     by_progress None = sym (cond-true (p.unit == p.unit) None (Some p) (eq-eqb p.unit p.unit refl))
     by_progress (Some q) = refl
 
--- a claim that comes to wait for a build is the claimer's
+-- a claim that begins to wait for a build is the claimer's
 built_now : (o : Claimer Value) (c : ClaimerChange Value) → is_building (stage_then o c) ≡ true
     → not (is_building (stage_of_claimer o)) ≡ true
     → stage_then o c ≡ members.Building (claim_of o)
@@ -203,7 +203,7 @@ built_now (claimers.Voting d v t) change.Builds now before = refl
 built_now (claimers.Voting d v t) (change.Proposes w r) now before = absurd (true≢false (sym now))
 built_now (claimers.Voting d v t) change.Ends now before = absurd (true≢false (sym now))
 
--- the job is given where a value is to be built
+-- a job is given if and only if a value is to be built
 pub job_counted : (s : State) (u host : ℕ) (o : Claimer Value) (c : ClaimerChange Value) (b : Bool)
     → is_building (view s u).stage ≡ is_building (stage_of_claimer o)
     → b ≡ (is_building (stage_then o c) && not (is_building (stage_of_claimer o)))
@@ -237,7 +237,7 @@ job_counted s u host o c false shown now = by_stage (stage_then o c) now
 
 -- ---- the claimer's stage
 
--- those that joined are just those that are named in order of number
+-- the members that joined are exactly those in the ascending list
 same_members : (t : Support) (weights : List ℕ) → t.weights ≡ weights
     → ((k : ℕ) → set_of t k ≡ true → k < length weights) → named_in (joined_in t) ≡ set_of t
 same_members t weights same within =
@@ -256,7 +256,7 @@ pub shown_stage : (s : State) (o : code.OpenClaim) → s.claim ≡ Some (open_of
     → IsWeighedBy s.weights o.claimer → (view s o.unit).stage ≡ stage_of_claimer o.claimer
 shown_stage s o at is = stage_is s (open_of o) at ∙ claimer_stage s.weights o.claimer is
 
--- the claim that is open is the claimer's
+-- the open claim is the claimer's
 pub claim_is_own : (o : Claimer Value) → claim_in (progress_of_claimer o) ≡ claim_of o
 claim_is_own (claimers.Gathering c t k) = refl
 claim_is_own (claimers.Building c w) = refl

@@ -1,11 +1,11 @@
--- Signatures of what is held, one after the other.
+-- Signatures of held records, one after the other.
 use Rattle.std.proofs.Common.{◌≡◌, ◌+◌, ◌<◌, ◌++◌, ℕ, List, [], ◌∷◌, length, map, take, Option}
 use Rattle.std.proofs.Common.{None, Some, refl, sym, ap, ◌∙◌}
 use Rattle.std.specs.Prelude.{filter_map, option_to_list}
 use Rattle.std.specs.List.{cons_option, slice_index_or}
 use Rattle.std.proofs.lemmas.List.{map-append, take_more}
 
--- what f gives of the end comes last
+-- the result for the last item is last
 given_behind : {X Y : Type 0} (f : X → Option Y) (xs : List X) (x : X)
     → filter_map f (xs ++ x ∷ []) ≡ filter_map f xs ++ option_to_list (f x)
 given_behind {X} {Y} f [] x = by (f x)
@@ -21,7 +21,7 @@ given_behind {X} {Y} f (z ∷ zs) x = by (f z) (given_behind f zs x)
     by None rest = rest
     by (Some y) rest = ap (λ ys. y ∷ ys) rest
 
--- what f makes of one item more
+-- the results of f for one item more
 pub made_more : {X Y : Type 0} (f : X → Y) (xs : List X) (k : ℕ) (x : X) (y : Y)
     (before after : List Y)
     → k < length xs → x ≡ slice_index_or xs k x → y ≡ f x
@@ -33,7 +33,7 @@ made_more f xs k x y before after lt here made was is =
     ∙ (sym (map-append f (take k xs) (slice_index_or xs k x ∷ []))
     ∙ ap (map f) (sym (take_more xs k x lt)))))
 
--- what f gives of one item more, which is seen as now
+-- the results of a partial f for one item more
 pub given_more : {X T Y : Type 0} (now : X → T) (f : T → Option Y) (xs : List X) (k : ℕ) (x : X)
     (o : Option Y) (before after : List Y)
     → k < length xs → x ≡ slice_index_or xs k x → f (now x) ≡ o

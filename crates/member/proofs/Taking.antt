@@ -1,10 +1,10 @@
--- What a step that is taken leaves: a member, and the job of its claim.
+-- The state after a step is taken: a member, and the job of its claim.
 use Rattle.std.proofs.Common.{◌≡◌, ℕ, List, map, Option, None, Some, inl, inr, refl, sym}
 use Rattle.std.proofs.Common.{ap, ◌∙◌, if◌then◌else◌, option_map, subst}
 use Rattle.std.specs.Prelude.{option_and_then, unwrap_or}
 use Rattle.std.specs.Option.{ForSome}
 use Rattle.faults.specs.Answers.{option_or}
-use Rattle.agreement.specs.declared.claim.Claim.{Claim}
+use Rattle.claims.specs.declared.claim.Claim.{Claim}
 use Rattle.claims.specs.Job.{Task}
 use Rattle.engine.proofs.Kept.{unit_good}
 use Rattle.protocol.specs.State.{OpenClaim, Progress, Gathering, Building, Voting, State, name_at}
@@ -23,7 +23,7 @@ use Rattle.member.specs.Prepared.{IsChangeWeighedBy, MayBeTaken, Prepared, answe
 use Rattle.member.specs.declared.member.Member.TheInside.{Inside}
 use Rattle.member.specs.shared.Fields.{IsKept, engine_with, facts_of_known, job_in, state_of}
 
--- the claim under which a build is made, where a claim waits for one
+-- the claim that waits for a build, if one does
 abbrev claim_or : Progress → Claim → Claim
 claim_or (Gathering c joined k) d = d
 claim_or (Building c) d = c
@@ -36,7 +36,7 @@ module _ (s : State) (p : Prepared) (is : IsMember s) (may : MayBeTaken s p) whe
   pub member_stays : IsMember (after s given)
   member_stays = members_stay s may.input given is may.in_range may.answers
 
-  -- the job of the claim that is left open stands on what was held before
+  -- the job of the claim that stays open is made on what was held before
   same_job : (o : OpenClaim) (c : Claim) → given.claim ≡ Some o
       → job_of (after s given) o.unit o.host c ≡ job_of s o.unit o.host c
   same_job o c open_is =
@@ -62,7 +62,7 @@ module _ (s : State) (p : Prepared) (is : IsMember s) (may : MayBeTaken s p) whe
       ∙ waits_under) in
       of.is ∙ ap (λ x. job_of s x.unit x.host job.claim) same ∙ ap (job_of s o.unit o.host) under
 
-  -- where none is given, the claim waited before
+  -- if no job is given, the claim already waited before
   kept_is : (o : OpenClaim) (c : Claim) → given.claim ≡ Some o → o.progress ≡ Building c
       → p.job ≡ None → job_in s ≡ Some (job_of s o.unit o.host c)
   kept_is o c open_is waits_under e =
@@ -73,7 +73,7 @@ module _ (s : State) (p : Prepared) (is : IsMember s) (may : MayBeTaken s p) whe
             ∙ ap (job_again s o) waits_under
       ]
 
-  -- the job at hand is the claim's
+  -- the stored job is the claim's
   pub job_then : (before : Option Task) → before ≡ job_in s
       → (if waits given.claim then option_or p.job before else None) ≡ job_in (after s given)
   job_then before at = by_claim given.claim refl
@@ -99,7 +99,7 @@ module _ (s : State) (p : Prepared) (is : IsMember s) (may : MayBeTaken s p) whe
       by_claim None e = refl
       by_claim (Some o) e = by_progress o o.progress e refl
 
--- The member that took a step, where its fields are those of n, keeps what a member keeps.
+-- If a member took a step, and its fields are those of n, the invariant of a member's fields holds.
 module _ (m n : Inside) (p : Prepared) (is : IsKept m) (may : MayBeTaken (state_of m) p) where
   abbrev new : Inside
   new = record m { known = n.known; claim = n.claim; job = n.job; engine = n.engine }

@@ -1,4 +1,4 @@
--- The packages of a unit are agreed, one after the other.
+-- Agreeing the packages of a unit, one after the other.
 use Rattle.std.proofs.Common.{◌≡◌, ◌<◌, ◌+◌, ◌++◌, ℕ, true, List, [], ◌∷◌, length, get_or, take}
 use Rattle.std.proofs.Common.{sym, subst, ap, ◌∙◌}
 use Rattle.std.specs.FinSet as set

@@ -6,21 +6,21 @@ use Rattle.protocol.specs.State.{Building, Gathering, OpenClaim, Progress, State
 use Rattle.protocol.specs.State.{facts_at}
 use Rattle.protocol.specs.Step.{unit_in}
 
--- what a claim proposes that is so far: a build, where votes come in
+-- the build that a claim has proposed, if it has reached the voting stage
 abbrev pub proposal_of : Progress → Option Value
 proposal_of (Gathering claim joined report) = None
 proposal_of (Building claim) = None
 proposal_of (Voting proposal joined) = Some proposal.value
 
--- what the open claim proposes, if there is one and it is for the unit
+-- what the open claim proposes, if there is an open claim and it is for the unit
 abbrev pub proposal_in : Option OpenClaim → ℕ → Option Value
 proposal_in None u = None
 proposal_in (Some claim) u = if nat_eq claim.unit u then proposal_of claim.progress else None
 
--- of the unit: what is held, else what the open claim proposes
+-- the build of the unit that is held, or else the one that the open claim proposes
 abbrev pub known_at : State → ℕ → Option Value
 known_at s u = option_or (facts_at s u).held (proposal_in s.claim u)
 
--- the same, of the unit that the path names; of none nothing is known
+-- the known build of the unit that the path names, if it names one
 abbrev pub known_build : State → Text → Option Value
 known_build s path = option_and_then (known_at s) (unit_in s path)

@@ -1,7 +1,7 @@
--- What an outcome tells.
+-- What an outcome contains.
 use Rattle.protocol.specs.Step.{Told}
 use Rattle.protocol.specs.declared.outcome.Outcome.{Outcome}
 
--- what is noted, what is sent, and what is to be built
+-- what is to be noted, sent and built
 abbrev pub told : Outcome → Told
 told o = (o.note, o.sends, o.job)

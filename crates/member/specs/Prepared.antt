@@ -1,6 +1,6 @@
--- What a contract sees of a prepared step, and when it may be taken.
+-- How contracts see a prepared step, and when it may be taken.
 use Rattle.std.specs.Prelude.{ℕ, List, Option, None, Some, option_and_then, option_map, Ok}
-use Rattle.agreement.specs.Votes.{ballot, report_of}
+use Rattle.claims.specs.Votes.{ballot, report_of}
 use Rattle.claims.specs.Job.{Task}
 use Rattle.ballots.specs.declared.claimer.ClaimerChange.{ClaimerChange}
 use Rattle.ballots.specs.declared.claimer.ClaimerChange.TheVariants as change
@@ -15,14 +15,14 @@ use Rattle.member.specs.OpenClaims.{IsTallyOf, IsWeighedBy, joined_in, open_of}
 use Rattle.member.specs.declared.step.ClaimChange.{ClaimChange}
 use Rattle.member.specs.declared.step.ClaimChange.TheVariants.{Stays, Becomes, Ends, Counts}
 
--- a step: what it notes, sends and gives to be built, and what it changes of the open claim
+-- a prepared step: its note, its messages, its job, and its change of the open claim
 pub record Prepared : Type 0 where
   pub note : Option (Note Value)
   pub sends : List Send
   pub job : Option Task
   pub change : ClaimChange
 
--- how far a claim is once a promise or a vote is counted, unless it is done with
+-- the claim's progress after a promise or a vote is counted, or None if the claim ends
 abbrev pub counted : ClaimerChange Value → Progress → Option Progress
 counted change.Stays p = Some p
 counted (change.Joins t report) (Gathering c joined k) =
@@ -33,7 +33,7 @@ counted change.Builds p = Some (Building (claim_in p))
 counted (change.Proposes v t) p = Some (Voting (ballot (claim_in p) v) (joined_in t))
 counted change.Ends p = None
 
--- the claim, this far
+-- the claim with this progress
 abbrev pub moved : OpenClaim → Progress → OpenClaim
 moved o progress = record o { progress = progress }
 
@@ -45,12 +45,12 @@ changed Ends claim = None
 changed (Counts change) claim =
     option_and_then (λ o. option_map (moved o) (counted change o.progress)) claim
 
--- what the step is as an answer of the member
+-- the member's answer that the step is
 abbrev pub answer_by : State → Prepared → Answer
 answer_by s p =
     record { note = p.note; sends = p.sends; job = p.job; claim = changed p.change s.claim }
 
--- the tally that the claim has next, if it has one, weighs members so
+-- The tally that the claim gets, if it gets a new one, has these weights and counts only members.
 abbrev pub IsCountWeighedBy : List ℕ → ClaimerChange Value → Progress → Type 0
 IsCountWeighedBy weights change.Stays p = Unit {0}
 IsCountWeighedBy weights (change.Joins t report) (Gathering c joined k) = IsTallyOf weights t
@@ -60,7 +60,7 @@ IsCountWeighedBy weights change.Builds p = Unit {0}
 IsCountWeighedBy weights (change.Proposes v t) p = IsTallyOf weights t
 IsCountWeighedBy weights change.Ends p = Unit {0}
 
--- so does what becomes of the open claim
+-- The claimer after the change, if the change sets one or its tally, has these weights.
 abbrev pub IsChangeWeighedBy : List ℕ → ClaimChange → Option OpenClaim → Type 0
 IsChangeWeighedBy weights Stays claim = Unit {0}
 IsChangeWeighedBy weights (Becomes o) claim = IsWeighedBy weights o.claimer
@@ -68,8 +68,8 @@ IsChangeWeighedBy weights Ends claim = Unit {0}
 IsChangeWeighedBy weights (Counts change) None = Unit {0}
 IsChangeWeighedBy weights (Counts change) (Some o) = IsCountWeighedBy weights change o.progress
 
--- The step may be taken: it is what the member, as it is, answers to some input, and its tally
--- weighs the member's members.
+-- The step may be taken: it is the member's answer in this state to some input, and its tally has
+-- the member's weights.
 pub record MayBeTaken (s : State) (p : Prepared) : Type 0 where
   pub input : Input
   pub in_range : IsInput input

@@ -1,4 +1,4 @@
-//! What becomes of a claim that waits for a build.
+//! How a claim that waits for a build goes on.
 ghost use Rattle.std.specs.Prelude.{◌≡◌, ◌≢◌, ◌<◌, ◌⊎◌, IfOk, MatchResult};
 ghost use Rattle.std.specs.Prelude.{None, Some, false, is_some, length, map, true, ℕ};
 ghost use Rattle.claims.specs.Claim.{IsClaim};
@@ -16,7 +16,7 @@ ghost use Rattle.member.specs.inside.Waiting.{waiting_for};
 use crate::packages::{by_path, made};
 use crate::receivers::everyone;
 use crate::texts::Listed;
-use crate::{ClaimChange, Member, OpenClaim, Step};
+use crate::{ClaimChange, Member, MemberStep, OpenClaim};
 use arrayvec::ArrayVec;
 use ballots::{Body, Claimer, Tally};
 use claims::{Claim, Job};
@@ -26,8 +26,8 @@ use pkgpath::PkgPath;
 use protocol::{Input, Packages, Refusal, Sends};
 
 impl<'a> Member<'a> {
-    /// The build of the unit that the path names, which this host makes of these files under the
-    /// claim, on what is held. No claim has to be open.
+    /// Makes the build of the unit that the path names, by this host under the claim, from these
+    /// files and on what is held. No claim has to be open.
     ///
     /// # Errors
     ///
@@ -50,9 +50,9 @@ impl<'a> Member<'a> {
         self.build_of(unit, &job, packages)
     }
 
-    /// The claim's host built the unit, which goes to all as the claim's proposal. It is kept with
-    /// the tree's texts, since it may be held as it is.
-    pub(crate) fn built(&self, path: &PkgPath, packages: Packages) -> Result<Step, Refusal>
+    /// The claim's host has built the unit. The build is sent to all as the claim's proposal. It
+    /// shares the tree's texts, because the member may later hold it unchanged.
+    pub(crate) fn built(&self, path: &PkgPath, packages: Packages) -> Result<MemberStep, Refusal>
         ensures { IsPrepared self.now (Input.Built path.now packages) result }
     {
         let (unit, job) = self.building(path)?;
@@ -69,10 +69,10 @@ impl<'a> Member<'a> {
             host: job.host,
             claimer,
         });
-        Ok(Step::saying(sends, change))
+        Ok(MemberStep::saying(sends, change))
     }
 
-    /// The build of the unit goes to these as the claim's proposal.
+    /// Sends the build of the unit to these members as the claim's proposal.
     pub(crate) fn proposed(
         &self,
         unit: u32,
@@ -89,15 +89,15 @@ impl<'a> Member<'a> {
         self.sent(unit, receivers, Body::Propose(claim, sent))
     }
 
-    /// The claim's host could not build the unit.
-    pub(crate) fn failed(&self, path: &PkgPath) -> Result<Step, Refusal>
+    /// The claim's host could not build the unit. The claim ends.
+    pub(crate) fn failed(&self, path: &PkgPath) -> Result<MemberStep, Refusal>
         ensures { IsPrepared self.now (Input.Failed path.now) result }
     {
         let _ = self.building(path)?;
-        Ok(Step::saying(Sends::nothing(), ClaimChange::Ends))
+        Ok(MemberStep::saying(Sends::nothing(), ClaimChange::Ends))
     }
 
-    /// The unit that the path names, and its job, where the open claim waits for its build.
+    /// The unit that the path names and its job, if the open claim is for it and waits for a build.
     fn building(&self, path: &PkgPath) -> Result<(u32, &Job), Refusal>
         ensures job { MatchResult result (λ x. waiting_for self.now path.now ≡ Some (x.0, x.1.now))
             (λ e. (e ≡ Refusal.NoClaim) × (waiting_for self.now path.now ≡ None)) }
@@ -113,7 +113,7 @@ impl<'a> Member<'a> {
         Ok((unit, job))
     }
 
-    /// The build of the unit that its job and these files make.
+    /// The build that the job and these files make of the unit.
     fn build_of(&self, unit: u32, job: &Job, packages: Packages) -> Result<Build, Refusal>
         requires unit { unit < length self.now.division.units }
         requires claim { IsClaim job.now.claim }
@@ -127,7 +127,8 @@ impl<'a> Member<'a> {
         }
     }
 
-    /// What the build makes of the unit's packages, if the files are of just these.
+    /// The unit's packages with these files. Fails if the files are not exactly those of the unit's
+    /// packages.
     fn packages_of(&self, unit: u32, packages: Packages) -> Result<Vec<Package>, Refusal>
         requires { unit < length self.now.division.units }
         ensures member { IsMember self.now }
@@ -149,7 +150,7 @@ impl<'a> Member<'a> {
     }
 }
 
-/// The refusal where no build can be made: memory ran out, or the files make none.
+/// The refusal if no build can be made: out of memory, or bad files.
 fn refusal_of(fault: RecordFault) -> Refusal
     ensures { ((fault ≡ RecordFault.Memory) × (result ≡ Refusal.Memory))
         ⊎ ((fault ≢ RecordFault.Memory) × (result ≡ Refusal.BadFiles fault)) }

@@ -1,4 +1,4 @@
-//! What a step makes of the open claim.
+//! How a step changes the open claim.
 ghost use Rattle.std.specs.Prelude.{◌≡◌, List, ℕ, None, if◌then◌else◌, option_map};
 ghost use Rattle.std.specs.Option.{ForSome, option_copied};
 ghost use Rattle.faults.specs.Answers.{option_or};
@@ -12,7 +12,7 @@ use ballots::{Claimer, ClaimerChange};
 use claims::Job;
 use std::mem;
 
-/// The claim that is open becomes what it is after the change. It takes no memory.
+/// Applies the change to the open claim. Does not allocate.
 pub(crate) fn change_claim(claim: &mut Option<OpenClaim>, change: ClaimChange)
     ensures claim { option_map open_of claim.new ≡ changed change (option_map open_of claim.old) }
     ensures weighed { (weights : List ℕ)
@@ -40,7 +40,7 @@ fn changed(claim: Option<OpenClaim>, change: ClaimChange) -> Option<OpenClaim>
     }
 }
 
-/// The claim once a promise or a vote is counted for it, unless it is done with.
+/// The claim after a promise or a vote is counted for it, or None if it ends.
 fn counted(claim: OpenClaim, change: ClaimerChange) -> Option<OpenClaim>
     ensures claim { option_map open_of result
         ≡ option_map (moved (open_of claim)) (counted change (open_of claim).progress) }
@@ -72,7 +72,7 @@ pub(crate) fn is_building(claim: Option<&OpenClaim>) -> bool
     }
 }
 
-/// The job becomes that of the claim that is open. It takes no memory.
+/// Sets the job to that of the open claim. Does not allocate.
 pub(crate) fn change_job(job: &mut Option<Job>, claim: Option<&OpenClaim>, given: Option<Job>)
     ensures { job.new
         ≡ (if waits (option_map open_of (option_copied claim.entry)) then option_or given job.old
@@ -82,8 +82,8 @@ pub(crate) fn change_job(job: &mut Option<Job>, claim: Option<&OpenClaim>, given
     drop(mem::replace(job, next));
 }
 
-/// The job of the claim that is open: the one that is given now, and else the one that was given
-/// before, as long as the claim waits for a build.
+/// The job of the open claim, if that waits for a build: the one given now, or else the previous
+/// one.
 fn job_of(claim: Option<&OpenClaim>, given: Option<Job>, before: Option<Job>) -> Option<Job>
     ensures { result
         ≡ (if waits (option_map open_of (option_copied claim.entry)) then option_or given before

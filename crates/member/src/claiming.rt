@@ -1,11 +1,11 @@
-//! Claims, and questions for what is agreed.
+//! Opening claims, and asking for what is agreed.
 ghost use Rattle.std.specs.Prelude.{◌<◌, IfOk, length};
 ghost use Rattle.protocol.specs.Answers.{answered, everyone};
 ghost use Rattle.protocol.specs.InTheAgreement.{view};
 ghost use Rattle.member.specs.inside.Steps.{IsPrepared, Makes, opened_in};
 
 use crate::receivers::{everyone, others};
-use crate::{ClaimChange, Member, OpenClaim, Step};
+use crate::{ClaimChange, Member, MemberStep, OpenClaim};
 use ballots::{Body, Claimer, Fact, Tally};
 use claims::{Claim, next_round};
 use engine::Letter;
@@ -14,9 +14,14 @@ use pkgpath::PkgPath;
 use protocol::{Input, Outcome, Refusal};
 
 impl<'a> Member<'a> {
-    /// A claim for the unit is opened, in a round above the one that is asked for and all that the
-    /// member opened, and is offered to all.
-    pub(crate) fn claimed(&self, path: &PkgPath, host: u16, above: u64) -> Result<Step, Refusal>
+    /// Opens a claim for the unit and offers it to all. Its round is above `above` and above all
+    /// rounds that the member opened for the unit.
+    pub(crate) fn claimed(
+        &self,
+        path: &PkgPath,
+        host: u16,
+        above: u64,
+    ) -> Result<MemberStep, Refusal>
         ensures { IsPrepared self.now (Input.Claim path.now host above) result }
     {
         let unit = self.unit_of(path)?;
@@ -34,8 +39,8 @@ impl<'a> Member<'a> {
         }
     }
 
-    /// A claim for the unit is opened in this round.
-    fn opening(&self, unit: u32, host: u16, round: u64) -> Result<Step, Memory>
+    /// Opens a claim for the unit in this round.
+    fn opening(&self, unit: u32, host: u16, round: u64) -> Result<MemberStep, Memory>
         requires { unit < length self.now.division.units }
         ensures { IfOk result (Makes self.now (answered self.now unit host (everyone self.now)
             (opened_in (view self.now unit) self.now.me round))) }
@@ -51,7 +56,7 @@ impl<'a> Member<'a> {
             promised: Tally::new(&self.weights),
             report: None,
         };
-        Ok(Step {
+        Ok(MemberStep {
             outcome: Outcome {
                 note: Some(note),
                 sends,
@@ -67,8 +72,8 @@ impl<'a> Member<'a> {
         })
     }
 
-    /// All others are asked for what is agreed for the unit.
-    pub(crate) fn asked(&self, path: &PkgPath) -> Result<Step, Refusal>
+    /// Asks all other members for the agreed build of the unit.
+    pub(crate) fn asked(&self, path: &PkgPath) -> Result<MemberStep, Refusal>
         ensures { IsPrepared self.now (Input.Ask path.now) result }
     {
         let unit = self.unit_of(path)?;
@@ -76,6 +81,6 @@ impl<'a> Member<'a> {
             return Err(Refusal::Held);
         }
         let sends = self.sent(unit, others(&self.weights, self.me), Body::Ask)?;
-        Ok(Step::saying(sends, ClaimChange::Stays))
+        Ok(MemberStep::saying(sends, ClaimChange::Stays))
     }
 }

@@ -1,4 +1,4 @@
-//! What is noted becomes what is known.
+//! Turns notes into knowledge.
 ghost use Rattle.std.specs.Prelude.{◌≡◌, ◌<◌, length, map};
 ghost use Rattle.engine.specs.Division.{IsDivision, number_named, unit_at};
 ghost use Rattle.protocol.specs.State.{noted_at};
@@ -11,8 +11,8 @@ use ballots::Fact;
 use engine::{Engine, Units};
 use pkgpath::PkgPath;
 
-/// Keeps the fact for the unit that has this name, and agrees its packages, if it is held then. A
-/// path that names no unit changes nothing. It takes no memory.
+/// Keeps the fact about the unit with this name. If it says that a build is held, the unit's
+/// packages become agreed. A path that names no unit changes nothing. Does not allocate.
 pub(crate) fn keep_fact(
     units: &Units<'_>,
     known: &mut [Known],
@@ -47,7 +47,7 @@ fn is_held(fact: &Fact) -> bool
     }
 }
 
-/// Agrees the unit's packages.
+/// Marks the unit's packages as agreed.
 fn agree(units: &Units<'_>, engine: &mut Engine<'_>, unit: u32)
     requires unit { unit < length units.now.units }
     requires tree { engine.old.tree ≡ units.now.tree }

@@ -1,4 +1,4 @@
-//! What a member answers to messages.
+//! How a member answers messages.
 ghost use Rattle.std.specs.Prelude.{◌≡◌, ◌<◌, [], ◌∷◌, IfOk, MatchOption, MatchResult, Ok, Err};
 ghost use Rattle.std.specs.Prelude.{Some, false, length, option_map};
 ghost use Rattle.protocol.specs.Answers.{message_of};
@@ -16,7 +16,7 @@ ghost use Rattle.member.specs.inside.Waiting.{is_for};
 use crate::naming::unit_named;
 use crate::receivers::{everyone, one, others};
 use crate::texts::Listed;
-use crate::{ClaimChange, Member, OpenClaim, Step};
+use crate::{ClaimChange, Member, MemberStep, OpenClaim};
 use arrayvec::ArrayVec;
 use ballots::{Body, Claimer, ClaimerStep, Fact, Message, Next, Note, VoterStep};
 use claims::{Claim, Job};
@@ -25,8 +25,8 @@ use package_record::Build;
 use protocol::{Input, Outcome, Refusal, Sends};
 
 impl<'a> Member<'a> {
-    /// A message comes.
-    pub(crate) fn heard(&self, message: Message) -> Result<Step, Refusal>
+    /// Answers a message.
+    pub(crate) fn heard(&self, message: Message) -> Result<MemberStep, Refusal>
         ensures { IsPrepared self.now (Input.Message message) result }
     {
         match self.unit_heard(&message) {
@@ -38,7 +38,7 @@ impl<'a> Member<'a> {
         }
     }
 
-    /// The unit that the message is about; else, why it is refused.
+    /// The unit that the message is about, or the reason why it is refused.
     pub(crate) fn unit_heard(&self, message: &Message) -> Result<u32, Refusal>
         ensures ok { IfOk result (λ unit. (unit < length self.now.division.units)
             × (message.now.sender < length self.now.weights)) }
@@ -55,8 +55,8 @@ impl<'a> Member<'a> {
         }
     }
 
-    /// The message about the unit is answered. Of a build that may be kept the tree's texts are.
-    fn read(&self, unit: u32, message: Message) -> Result<Step, Memory>
+    /// Answers the message about the unit. A build that may be kept shares the tree's texts.
+    fn read(&self, unit: u32, message: Message) -> Result<MemberStep, Memory>
         requires unit { unit < length self.now.division.units }
         requires sender { message.sender < length self.now.weights }
         ensures { IfOk result (Makes self.now (hears self.now unit message.sender message.body)) }
@@ -76,8 +76,9 @@ impl<'a> Member<'a> {
         self.answered(unit, sender, body)
     }
 
-    /// Whether the body carries a build that may be kept. What comes again, behind a vote for it or
-    /// once the unit is held, is not; nor is a report that is not greater than those that came.
+    /// Whether the body carries a build that may be kept. An agreed build may if the unit isn't
+    /// held yet. A proposed one may unless the last vote was under its claim. A reported one may if
+    /// its vote is under a greater claim than the one reported so far.
     fn may_keep(&self, unit: u32, body: &Body) -> bool
         requires { unit < length self.now.division.units }
     {
@@ -94,8 +95,9 @@ impl<'a> Member<'a> {
         }
     }
 
-    /// Whether the open claim is this one, for the unit, and keeps the report of a vote under
-    /// `voted`: as long as promises come in, one that is greater than the report that it has.
+    /// Whether this is the open claim, is for the unit, and keeps the report of a vote under
+    /// `voted`. It does while it gathers promises, if that vote is greater than the one reported so
+    /// far.
     fn keeps(&self, unit: u32, claim: Claim, voted: Claim) -> bool {
         let Some(open) = self.claim_for(unit) else {
             return false;
@@ -113,8 +115,8 @@ impl<'a> Member<'a> {
         }
     }
 
-    /// The message about the unit is answered.
-    fn answered(&self, unit: u32, sender: u8, body: Body) -> Result<Step, Memory>
+    /// Answers the message about the unit.
+    fn answered(&self, unit: u32, sender: u8, body: Body) -> Result<MemberStep, Memory>
         requires unit { unit < length self.now.division.units }
         requires sender { sender < length self.now.weights }
         ensures { IfOk result (Makes self.now (hears self.now unit sender body)) }
@@ -133,12 +135,12 @@ impl<'a> Member<'a> {
             Body::Vote(claim) => self.voted_by(unit, sender, claim),
             Body::Agreed(build) => self.agreed(unit, build),
             Body::Ask => self.asked_by(unit, sender),
-            Body::Nay(_, _) => Ok(Step::nothing()),
+            Body::Nay(_, _) => Ok(MemberStep::nothing()),
         }
     }
 
-    /// The voter's step, which answers the claim's member.
-    fn voting(&self, unit: u32, claim: Claim, step: VoterStep) -> Result<Step, Memory>
+    /// The voter's step, which answers the member that made the claim.
+    fn voting(&self, unit: u32, claim: Claim, step: VoterStep) -> Result<MemberStep, Memory>
         requires unit { unit < length self.now.division.units }
         requires kept { step.change ≡ step.note }
         ensures { IfOk result
@@ -150,7 +152,7 @@ impl<'a> Member<'a> {
             change,
         } = step;
         match self.texts_of(unit, claim, note, answer) {
-            Ok((note, sends)) => Ok(Step {
+            Ok((note, sends)) => Ok(MemberStep {
                 outcome: Outcome {
                     note,
                     sends,
@@ -167,7 +169,8 @@ impl<'a> Member<'a> {
         }
     }
 
-    /// The note of the fact on the unit, if there is one, and the answer to the claim's member.
+    /// The note of the fact about the unit, if there is one, and the answer to the member that made
+    /// the claim.
     fn texts_of(
         &self,
         unit: u32,
@@ -185,7 +188,7 @@ impl<'a> Member<'a> {
         Ok((note, sends))
     }
 
-    /// The note of the fact on the unit, if there is one.
+    /// The note of the fact about the unit, if there is one.
     fn note_of(&self, unit: u32, fact: Option<Fact>) -> Result<Option<Note>, Memory>
         requires { unit < length self.now.division.units }
         ensures { IfOk result (λ note. note ≡ option_map (on_unit self.now unit) fact) }
@@ -214,34 +217,34 @@ impl<'a> Member<'a> {
         sender: u8,
         claim: Claim,
         report: Option<(Claim, Build)>,
-    ) -> Result<Step, Memory>
+    ) -> Result<MemberStep, Memory>
         requires unit { unit < length self.now.division.units }
         requires sender { sender < length self.now.weights }
         ensures { IfOk result
             (Makes self.now (hears self.now unit sender (Body.Promise claim report))) }
     {
         let Some(open) = self.claim_for(unit) else {
-            return Ok(Step::nothing());
+            return Ok(MemberStep::nothing());
         };
         let step = open.claimer.promise(sender, claim, report.as_ref())?;
         self.counting(open, step)
     }
 
     /// The sender votes for the claim's proposal.
-    fn voted_by(&self, unit: u32, sender: u8, claim: Claim) -> Result<Step, Memory>
+    fn voted_by(&self, unit: u32, sender: u8, claim: Claim) -> Result<MemberStep, Memory>
         requires unit { unit < length self.now.division.units }
         requires sender { sender < length self.now.weights }
         ensures { IfOk result (Makes self.now (hears self.now unit sender (Body.Vote claim))) }
     {
         let Some(open) = self.claim_for(unit) else {
-            return Ok(Step::nothing());
+            return Ok(MemberStep::nothing());
         };
         let step = open.claimer.vote(sender, claim)?;
         self.counting(open, step)
     }
 
     /// The claimer's step.
-    fn counting(&self, own: &OpenClaim, step: ClaimerStep) -> Result<Step, Memory>
+    fn counting(&self, own: &OpenClaim, step: ClaimerStep) -> Result<MemberStep, Memory>
         requires { self.now.claim ≡ Some (open_of own.now) }
         ensures { IfOk result
             (λ made. made ≡ counter_prepared self.now (open_of own.now) step.next step.change) }
@@ -256,15 +259,15 @@ impl<'a> Member<'a> {
         }
     }
 
-    /// What follows a claimer's step, before its change of the claim.
-    fn following(&self, own: &OpenClaim, next: Next) -> Result<Step, Memory>
+    /// What follows from a claimer's step, before it changes the claim.
+    fn following(&self, own: &OpenClaim, next: Next) -> Result<MemberStep, Memory>
         requires { self.now.claim ≡ Some (open_of own.now) }
         ensures { (change : ClaimerChange Value) → IfOk result
             (λ made. counting made change
             ≡ counter_prepared self.now (open_of own.now) next change) }
     {
         match next {
-            Next::Nothing => Ok(Step::nothing()),
+            Next::Nothing => Ok(MemberStep::nothing()),
             Next::Build => {
                 let job = self.job_for(own.unit, own.host, own.claimer.claim())?;
                 giving(job)
@@ -275,21 +278,21 @@ impl<'a> Member<'a> {
                     everyone(&self.weights),
                     Body::Propose(claim, build),
                 )?;
-                Ok(Step::saying(sends, ClaimChange::Stays))
+                Ok(MemberStep::saying(sends, ClaimChange::Stays))
             }
             Next::Hold { noted, sent } => self.holding(own.unit, noted, sent),
         }
     }
 
-    /// A majority voted: the build is held, and all others are told.
-    fn holding(&self, unit: u32, noted: Build, sent: Build) -> Result<Step, Memory>
+    /// A majority voted: the build is held, and sent to all others.
+    fn holding(&self, unit: u32, noted: Build, sent: Build) -> Result<MemberStep, Memory>
         requires { unit < length self.now.division.units }
         ensures { (change : ClaimerChange Value) → IfOk result
             (λ made. counting made change ≡ held_prepared self.now unit noted sent change) }
     {
         let (note, kept) = self.note_held(unit, noted)?;
         let sends = self.sent(unit, others(&self.weights, self.me), Body::Agreed(sent))?;
-        Ok(Step {
+        Ok(MemberStep {
             outcome: Outcome {
                 note: Some(note),
                 sends,
@@ -301,7 +304,7 @@ impl<'a> Member<'a> {
         })
     }
 
-    /// The note that the build of the unit is held, and the fact that the member keeps of it.
+    /// The note that the build of the unit is held, and the fact that the member keeps.
     fn note_held(&self, unit: u32, build: Build) -> Result<(Note, Fact), Memory>
         requires { unit < length self.now.division.units }
         ensures note { IfOk result
@@ -313,20 +316,20 @@ impl<'a> Member<'a> {
         Ok((note, Fact::Held(kept)))
     }
 
-    /// What is agreed is held, unless a build of the unit is.
-    fn agreed(&self, unit: u32, build: Build) -> Result<Step, Memory>
+    /// The agreed build becomes held, unless one of the unit is held already.
+    fn agreed(&self, unit: u32, build: Build) -> Result<MemberStep, Memory>
         requires { unit < length self.now.division.units }
         ensures { IfOk result (Makes self.now (hears self.now unit 0 (Body.Agreed build))) }
     {
         if self.known[unit as usize].held.is_some() {
-            return Ok(Step::nothing());
+            return Ok(MemberStep::nothing());
         }
         let (note, kept) = self.note_held(unit, build)?;
         let change = match self.claim_for(unit) {
             Some(_) => ClaimChange::Ends,
             None => ClaimChange::Stays,
         };
-        Ok(Step {
+        Ok(MemberStep {
             outcome: Outcome {
                 note: Some(note),
                 sends: Sends::nothing(),
@@ -338,8 +341,8 @@ impl<'a> Member<'a> {
         })
     }
 
-    /// The sender asks for what is agreed, and is told if it is held.
-    fn asked_by(&self, unit: u32, sender: u8) -> Result<Step, Memory>
+    /// The sender asks for the agreed build. It gets it if one is held here.
+    fn asked_by(&self, unit: u32, sender: u8) -> Result<MemberStep, Memory>
         requires { unit < length self.now.division.units }
         ensures { IfOk result (Makes self.now (hears self.now unit sender Body.Ask)) }
     {
@@ -347,20 +350,20 @@ impl<'a> Member<'a> {
             Some(held) => {
                 let build = held.build().copy()?;
                 let sends = self.sent(unit, one(sender), Body::Agreed(build))?;
-                Ok(Step::saying(sends, ClaimChange::Stays))
+                Ok(MemberStep::saying(sends, ClaimChange::Stays))
             }
-            None => Ok(Step::nothing()),
+            None => Ok(MemberStep::nothing()),
         }
     }
 }
 
-/// A build is to be made: this job is given.
-fn giving(job: Job) -> Result<Step, Memory>
+/// Gives this job to be built.
+fn giving(job: Job) -> Result<MemberStep, Memory>
     ensures { (change : ClaimerChange Value) → IfOk result
         (λ made. counting made change ≡ quiet_prepared [] (Some job) change) }
 {
     let kept_job = job.copy()?;
-    Ok(Step {
+    Ok(MemberStep {
         outcome: Outcome {
             note: None,
             sends: Sends::nothing(),
@@ -372,7 +375,7 @@ fn giving(job: Job) -> Result<Step, Memory>
     })
 }
 
-/// The sender, and the members of the claims that the body names; that in a record is none of them.
+/// The sender, and the members of the claims that the body names, except for claims in records.
 fn members_of(sender: u8, body: &Body) -> ArrayVec<u8, 9>
     ensures { result.items ≡ sender ∷ members_of body.now }
 {

@@ -1,4 +1,4 @@
-//! A build that is held, which contracts see as what its records say.
+//! A build that is held. Contracts see it as the contents of its records.
 ghost use Rattle.std.specs.Prelude.{◌≡◌, ◌<◌, IfOk, IfSome, MatchOption, None, Some, length};
 ghost use Rattle.std.specs.List.{slice_index_or};
 ghost use Rattle.package_record.specs.Content.{Content};
@@ -11,15 +11,15 @@ use pkgpath::PkgPath;
 use std::alloc::Global;
 use std::marker::Model;
 
-/// The most records of a build whose digests are kept, so that what is kept of one record is small.
+/// Maximum number of records of a build whose digests are cached, so that the cache stays small.
 const MOST_SIGNED: usize = 64;
 
-/// A build that is held, and the digests of its records that were computed. They are kept, since a
-/// record is signed for each build that is made on it.
+/// A build that is held, with a cache of its records' digests. They are cached because a record is
+/// signed again for each build that is made on it.
 #[derive(Drop)]
 pub(crate) struct Held {
     build: Build,
-    /// By record that of its text, once it was computed.
+    /// For each record the digest of its text, once computed.
     digests: Option<Vec<Option<[u8; 32]>>>,
 }
 
@@ -37,7 +37,7 @@ impl Model for Held {
 }
 
 impl Held {
-    /// The build is held. It takes no memory.
+    /// Holds the build. Does not allocate.
     pub(crate) fn new(build: Build) -> Held
         ensures { result ≡ build }
     {
@@ -54,8 +54,8 @@ impl Held {
         &self.build
     }
 
-    /// Computes the digest of the path's record and keeps it, if there is such a record and that
-    /// was not done before. Of a build of very many records none is kept.
+    /// Computes and caches the digest of the path's record, if there is such a record and its
+    /// digest isn't cached. Builds with more than `MOST_SIGNED` records aren't cached.
     pub(crate) fn sign(&mut self, alloc: Global, path: &PkgPath) -> Result<(), Memory>
         ensures { self.new ≡ self.old }
     {
@@ -70,7 +70,7 @@ impl Held {
         self.keep(alloc, place, digest)
     }
 
-    /// Keeps the digest of the record at the place.
+    /// Caches the digest of the record at the place.
     fn keep(&mut self, alloc: Global, place: usize, digest: [u8; 32]) -> Result<(), Memory>
         requires place { place < length self.old }
         requires digest { (r : Content) → digest ≡ digest_of (slice_index_or self.old place r) }
@@ -82,8 +82,8 @@ impl Held {
         Ok(())
     }
 
-    /// The digests that are kept, which are to be put back. Where none are, there is none of each
-    /// record.
+    /// Takes the cached digests out, for the caller to put back. Without a cache, there is an empty
+    /// entry for each record.
     fn taken(&mut self, alloc: Global) -> Result<Vec<Option<[u8; 32]>>, Memory>
         ensures same { self.new ≡ self.old }
         ensures digests { IfOk result (λ digests. AreDigests digests.items self.old) }
@@ -97,7 +97,7 @@ impl Held {
         }
     }
 
-    /// The record of the path, with its digest if that is kept.
+    /// The record of the path, with its digest if that is cached.
     pub(crate) fn record_of(&self, path: &PkgPath) -> Option<HeldRecord<'_>>
         ensures { result ≡ record_in path.now self.now }
     {
@@ -109,7 +109,7 @@ impl Held {
         })
     }
 
-    /// The digest of the record at the place, if it is kept.
+    /// The digest of the record at the place, if it is cached.
     fn digest(&self, place: usize) -> Option<&[u8; 32]>
         requires { place < length self.now }
         ensures { IfSome result
@@ -125,7 +125,7 @@ impl Held {
     }
 }
 
-/// A record that is held, and its digest if that is kept.
+/// A record that is held, and its digest if that is cached.
 #[derive(Drop)]
 pub(crate) struct HeldRecord<'a> {
     record: &'a Record,
@@ -153,7 +153,7 @@ impl<'a> HeldRecord<'a> {
         self.record
     }
 
-    /// The SHA-256 of the record's text: the digest that is kept, or else a new one.
+    /// The SHA-256 of the record's text: the cached digest, or else computed now.
     pub(crate) fn digest(&self) -> Result<[u8; 32], Memory>
         ensures { IfOk result (λ digest. digest ≡ digest_of self.now) }
     {
@@ -164,7 +164,7 @@ impl<'a> HeldRecord<'a> {
     }
 }
 
-/// The place of the path's record in the build, whose records ascend by path.
+/// The place of the path's record in the build. The build's records ascend by path.
 fn place_of(build: &Build, path: &PkgPath) -> Option<usize>
     ensures { MatchOption result (record_in path.now build.now ≡ None)
         (λ place. (place < length build.now)

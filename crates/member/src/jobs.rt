@@ -1,4 +1,4 @@
-//! What is to be built.
+//! Jobs: what is to be built.
 ghost use Rattle.std.specs.Prelude.{◌≡◌, ◌<◌, ◌++◌, ◌∷◌, [], IfOk, IfSome, OnOk, filter_map, length};
 ghost use Rattle.std.specs.Prelude.{map, option_map};
 ghost use Rattle.ballots.specs.Support.{IsMember};
@@ -11,17 +11,16 @@ use crate::known::Known;
 use crate::packages::{in_order, paths_of};
 use ballots::{Body, Claimer, Next};
 use claims::{Claim, Dep, Deps, Job};
-use engine::Units;
+use engine::{Tree, Units};
 use faults::Memory;
-use listing::Tree;
 use pkgpath::PkgPath;
 use protocol::Input;
 use std::alloc::Global;
 
 impl<'a> Member<'a> {
-    /// Computes the digests that the job of the open claim needs and that are not kept yet, if the
-    /// input is what that job is given for. What is built on the same records later finds them
-    /// kept. Where memory runs out, the job computes what it misses.
+    /// Computes and caches the digests that the job of the open claim needs, if the input is the
+    /// one that starts that job. Later jobs on the same records find them cached. If memory runs
+    /// out, the job computes the missing ones itself.
     pub(crate) fn sign_before(&mut self, input: &Input)
         ensures { self.new ≡ self.old }
     {
@@ -32,7 +31,7 @@ impl<'a> Member<'a> {
         }
     }
 
-    /// The unit of the open claim, if the input is the promise after which it is built.
+    /// The unit of the open claim, if the input is the promise that starts its job.
     fn unit_to_build(&self, input: &Input) -> Option<u32>
         ensures { IfSome result (λ unit. unit < length self.now.division.units) }
     {
@@ -70,7 +69,7 @@ impl<'a> Member<'a> {
         })
     }
 
-    /// The signatures of what is held of all that the unit's build needs, in order of path.
+    /// The signatures of the held records of all that the unit's build needs, in order of path.
     fn deps(&self, unit: u32) -> Result<Deps, Memory>
         requires { unit < length self.now.division.units }
         ensures { IfOk result (λ deps. deps ≡ deps_of self.now unit) }
@@ -82,7 +81,7 @@ impl<'a> Member<'a> {
         Ok(Deps::new(deps))
     }
 
-    /// Adds the signatures of what is held of these paths, in their order.
+    /// Adds the signatures of the held records of these paths, in their order.
     fn sign(&self, paths: &[&PkgPath], deps: &mut Vec<Dep>) -> Result<(), Memory>
         requires { deps.old.items ≡ [] }
         ensures { OnOk result (deps.new.items
@@ -98,7 +97,7 @@ impl<'a> Member<'a> {
     }
 }
 
-/// Whether the claimer has a build made once this member promises the claim and reports nothing.
+/// Whether the claimer starts a build once member `from` promises the claim and reports no vote.
 fn is_built_after(claimer: &Claimer, from: u8, claim: Claim) -> bool
     requires { IsMember from }
 {
@@ -108,8 +107,7 @@ fn is_built_after(claimer: &Claimer, from: u8, claim: Claim) -> bool
     }
 }
 
-/// Computes the digests of what is held of all that the unit's build needs, where they are not kept
-/// yet.
+/// Computes and caches the missing digests of the held records that the unit's build needs.
 fn sign_needed(
     alloc: Global,
     tree: &Tree,

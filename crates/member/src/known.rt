@@ -1,6 +1,6 @@
-//! What a member knows of a unit, also after a stop.
+//! What a member knows of a unit, and still knows after a restart.
 ghost use Rattle.std.specs.Prelude.{◌≡◌};
-ghost use Rattle.agreement.specs.Member.{no_facts, noted};
+ghost use Rattle.claims.specs.Member.{no_facts, noted};
 ghost use Rattle.ballots.specs.InTheAgreement.{note_of};
 
 use crate::held::Held;
@@ -10,10 +10,10 @@ use package_record::Build;
 use pkgpath::PkgPath;
 use std::alloc::Global;
 
-/// What a member knows of a unit, also after a stop.
+/// What a member knows of a unit, and still knows after a restart.
 #[derive(Drop)]
 pub(crate) struct Known {
-    /// The greatest round that it opened, or 0.
+    /// The greatest round that the member opened, or 0.
     pub(crate) opened: u64,
     pub(crate) voter: Voter,
     pub(crate) held: Option<Held>,
@@ -36,8 +36,7 @@ impl Known {
         }
     }
 
-    /// Keeps the fact. It takes no memory for what a build says: that is moved, or shared with the
-    /// last vote.
+    /// Keeps the fact. Does not allocate for a build: it is moved, or shared with the last vote.
     pub(crate) fn keep(&mut self, fact: Fact)
         ensures { facts_of_known self.new ≡ noted (facts_of_known self.old) (note_of fact) }
     {
@@ -53,7 +52,8 @@ impl Known {
         }
     }
 
-    /// Computes the digest of the path's record, if that is held and it was not done before.
+    /// Computes and caches the digest of the path's record, if that is held and its digest isn't
+    /// cached.
     pub(crate) fn sign(&mut self, alloc: Global, path: &PkgPath) -> Result<(), Memory>
         ensures { self.new ≡ self.old }
     {
@@ -63,8 +63,8 @@ impl Known {
         }
     }
 
-    /// The build, as the last vote has it, if that is for an equal one: most builds that a member
-    /// holds are those that it voted for, and copies share what they say.
+    /// The build. If it equals that of the last vote, it shares the contents: most builds that a
+    /// member holds are those that it voted for.
     fn shared(&self, build: Build) -> Build
         ensures { result ≡ build }
     {

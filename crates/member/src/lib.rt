@@ -1,8 +1,8 @@
-//! One member of the agreement, over all units of a tree and without a disk.
+//! One member of the agreement, over all units of a tree, without a disk.
 //!
-//! What it is asked, what it answers and what holds of that stands in crate `protocol`; here stands
-//! the code that does so. A step is prepared first, which takes all the memory that it needs and
-//! changes nothing; once its note is on a log it is taken, which needs no memory and can't fail.
+//! Crate `protocol` defines its inputs and answers, and states what holds of them; here is the
+//! code. A step is first prepared: that allocates all that it needs and changes nothing. Once its
+//! note is on a log the step is committed: that allocates nothing and can't fail.
 #![tactic(auto)]
 
 mod building;
@@ -26,5 +26,5 @@ mod texts;
 
 pub use crate::member::Member;
 pub use crate::open_claim::OpenClaim;
-pub use crate::step::{ClaimChange, Step};
+pub use crate::step::{ClaimChange, MemberStep};
 pub use protocol::{Input, Outcome, Packages, Refusal, Send, Sends};

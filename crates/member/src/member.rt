@@ -1,9 +1,9 @@
-//! A member, which contracts see as its tree with its units, its weights, its number, what it knows
-//! of each unit, and its open claim.
+//! A member. Contracts see it as its tree with its units, its weights, its number, what it knows of
+//! each unit, and its open claim.
 ghost use Rattle.std.specs.Prelude.{◌≡◌, ◌<◌, IfErr, IfOk, OnOk, None, Some};
 ghost use Rattle.std.specs.Prelude.{length, map, nat_lt, replicate};
 ghost use Rattle.std.specs.List.{list_all};
-ghost use Rattle.agreement.specs.Member.{no_facts};
+ghost use Rattle.claims.specs.Member.{no_facts};
 ghost use Rattle.faults.specs.Answers.{map_ok};
 ghost use Rattle.engine.specs.Division.{IsDivision};
 ghost use Rattle.protocol.specs.Answers.{after, tree_digest};
@@ -19,12 +19,11 @@ use crate::change::{change_claim, change_job};
 use crate::facts::keep_fact;
 use crate::known::Known;
 use crate::naming::unit_named;
-use crate::{OpenClaim, Step};
+use crate::{MemberStep, OpenClaim};
 use ballots::{Note, Weights};
 use claims::{Claim, Job};
-use engine::{Engine, Units};
+use engine::{Engine, Tree, Units};
 use faults::Memory;
-use listing::Tree;
 use pkgpath::PkgPath;
 use protocol::{Input, Outcome, Refusal};
 use std::alloc::Global;
@@ -34,14 +33,14 @@ use std::marker::Model;
 #[derive(Drop)]
 pub struct Member<'a> {
     pub(crate) tree: &'a Tree,
-    /// That of the tree, by which messages of other trees are told.
+    /// The tree's digest, by which messages of other trees are recognized.
     pub(crate) digest: [u8; 32],
     pub(crate) units: Units<'a>,
     pub(crate) weights: Weights,
     pub(crate) me: u8,
     pub(crate) known: Vec<Known>,
     pub(crate) claim: Option<OpenClaim>,
-    /// That of the open claim, while it waits for a build.
+    /// The job of the open claim, while that waits for a build.
     pub(crate) job: Option<Job>,
     pub(crate) engine: Engine<'a>,
 }
@@ -59,7 +58,7 @@ impl<'a> Model for Member<'a> {
 }
 
 impl<'a> Member<'a> {
-    /// The member with this number that knows nothing yet.
+    /// The member with this number, which knows nothing yet.
     pub fn new(
         alloc: Global,
         tree: &'a Tree,
@@ -74,7 +73,7 @@ impl<'a> Member<'a> {
         Member::with_digest(alloc, tree, &tree.digest(), weights, me)
     }
 
-    /// The same, of a tree whose digest is known.
+    /// As `new`, for a tree whose digest is known.
     pub fn with_digest(
         alloc: Global,
         tree: &'a Tree,
@@ -109,8 +108,7 @@ impl<'a> Member<'a> {
         }
     }
 
-    /// Notes all of these, the first note first. A claim that was open is dropped. It takes no
-    /// memory.
+    /// Restores the notes, in order. An open claim is dropped. Does not allocate.
     pub fn restore(&mut self, notes: Vec<Note>)
         requires { AreOnUnits self.old.division notes.items }
         ensures { self.new ≡ restored self.old notes.items }
@@ -129,12 +127,12 @@ impl<'a> Member<'a> {
         }
     }
 
-    /// Makes all growths of the step, and changes no fact.
+    /// Prepares the step that answers the input: allocates what it needs, and changes no fact.
     ///
     /// # Errors
     ///
-    /// `Memory`, where a growth was refused; else the first of the refusals of such an input.
-    pub fn prepare(&mut self, input: Input) -> Result<Step, Refusal>
+    /// `Memory`, if an allocation failed; else the first refusal that applies to the input.
+    pub fn prepare(&mut self, input: Input) -> Result<MemberStep, Refusal>
         ensures same { self.new ≡ self.old }
         ensures step { HasAnswered self.old input (map_ok (answer_by self.old) result) }
         ensures taken { IfOk result (MayBeTaken self.old) }
@@ -144,7 +142,7 @@ impl<'a> Member<'a> {
     }
 
     /// The step that answers the input.
-    fn prepared(&self, input: Input) -> Result<Step, Refusal>
+    fn prepared(&self, input: Input) -> Result<MemberStep, Refusal>
         ensures { IsPrepared self.now input result }
     {
         match input {
@@ -157,13 +155,13 @@ impl<'a> Member<'a> {
         }
     }
 
-    /// Takes the step, which was prepared from the present facts. It takes no memory.
-    pub fn commit(&mut self, step: Step) -> Outcome
+    /// Takes the step, which must have been prepared in the present state. Does not allocate.
+    pub fn commit(&mut self, step: MemberStep) -> Outcome
         requires { MayBeTaken self.old step }
         ensures state { self.new ≡ after self.old (answer_by self.old step) }
         ensures outcome { told result ≡ (step.note, step.sends, step.job) }
     {
-        let Step {
+        let MemberStep {
             outcome,
             kept_fact,
             kept_job,
@@ -187,7 +185,7 @@ impl<'a> Member<'a> {
     ///
     /// # Errors
     ///
-    /// Those of `prepare`. The member is then as it was.
+    /// Those of `prepare`. The member is then unchanged.
     pub fn handle(&mut self, input: Input) -> Result<Outcome, Refusal>
         ensures { HasHandled self.old self.new input (map_ok told result) }
     {
@@ -195,14 +193,13 @@ impl<'a> Member<'a> {
         Ok(self.commit(step))
     }
 
-    /// Whether a message with this tree's digest, these members and this path is answered; else,
-    /// why it is refused. The sender is one of its members, as are those of the claims that it
-    /// names.
+    /// Tests whether a message with this tree digest, these members and this path is answered. The
+    /// members are the sender and those of the claims in the message.
     ///
     /// # Errors
     ///
-    /// The first that applies: `OtherTree`; `NotAMember`; `Unlisted`, where the path is no unit's
-    /// name.
+    /// The first that applies: `OtherTree`; `NotAMember`; `Unlisted`, if the path isn't the name of
+    /// a unit.
     pub fn test_header(
         &self,
         tree: &[u8; 32],
@@ -227,7 +224,7 @@ impl<'a> Member<'a> {
     }
 }
 
-/// Equal units, and that nothing is known of each.
+/// A copy of the units, and an empty `Known` for each.
 fn unknown_units<'a>(alloc: Global, units: &Units<'a>) -> Result<(Units<'a>, Vec<Known>), Memory>
     ensures units { IfOk result (λ made. made.0 ≡ units.now) }
     ensures known { IfOk result (λ made. map facts_of_known made.1.items
@@ -239,7 +236,7 @@ fn unknown_units<'a>(alloc: Global, units: &Units<'a>) -> Result<(Units<'a>, Vec
     Ok((copy, known))
 }
 
-/// Of so many units nothing is known.
+/// An empty `Known` for each of this number of units.
 fn all_unknown(alloc: Global, units: u32) -> Result<Vec<Known>, Memory>
     ensures { IfOk result (λ known. map facts_of_known known.items ≡ replicate units no_facts) }
 {

@@ -1,4 +1,4 @@
-//! What a member says and notes of a unit, and which unit that is.
+//! The messages and notes of a member, and the units that they are about.
 ghost use Rattle.std.specs.Prelude.{◌≡◌, ◌<◌, IfErr, IfOk, None, Some, length};
 ghost use Rattle.protocol.specs.Answers.{message_of};
 ghost use Rattle.protocol.specs.Sends.{sent_to};
@@ -36,7 +36,7 @@ impl<'a> Member<'a> {
         self.engine.letter(packages[0])
     }
 
-    /// The note on the unit.
+    /// The note of the fact about the unit.
     pub(crate) fn note_on(&self, unit: u32, fact: Fact) -> Result<Note, Memory>
         requires { unit < length self.now.division.units }
         ensures { IfOk result
@@ -46,7 +46,7 @@ impl<'a> Member<'a> {
         Ok(Note { path, fact })
     }
 
-    /// The message about the unit, to these.
+    /// The message about the unit, to these receivers.
     pub(crate) fn sent(
         &self,
         unit: u32,

@@ -5,7 +5,7 @@ ghost use Rattle.engine.specs.Division.{number_named};
 use engine::Units;
 use pkgpath::PkgPath;
 
-/// The unit with this name, by which messages and notes go.
+/// The unit with this name. Messages and notes name units so.
 pub(crate) fn unit_named(units: &Units<'_>, path: &PkgPath) -> Option<u32>
     ensures { result ≡ number_named units.now path.now }
 {

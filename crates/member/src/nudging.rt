@@ -1,17 +1,18 @@
-//! What the open claim waits for is asked for again.
+//! Repeats what the open claim waits for.
 ghost use Rattle.std.specs.Prelude.{◌≡◌, [], IfOk, None};
 ghost use Rattle.member.specs.shared.Fields.{job_in};
 ghost use Rattle.member.specs.inside.Steps.{IsPrepared};
 
 use crate::receivers::missing;
-use crate::{ClaimChange, Member, Step};
+use crate::{ClaimChange, Member, MemberStep};
 use ballots::{Body, Claimer};
 use faults::Memory;
 use protocol::{Input, Outcome, Refusal, Sends};
 
 impl<'a> Member<'a> {
-    /// The offer or the proposal goes to those that have not answered, or the job is given again.
-    pub(crate) fn nudged(&self) -> Result<Step, Refusal>
+    /// Sends the offer or the proposal again to those that have not answered, or gives the job
+    /// again.
+    pub(crate) fn nudged(&self) -> Result<MemberStep, Refusal>
         ensures { IsPrepared self.now Input.Nudge result }
     {
         let Some(open) = &self.claim else {
@@ -25,7 +26,7 @@ impl<'a> Member<'a> {
             } => {
                 let to = missing(&self.weights, promised);
                 let sends = self.sent(open.unit, to, Body::Offer(*claim))?;
-                Ok(Step::saying(sends, ClaimChange::Stays))
+                Ok(MemberStep::saying(sends, ClaimChange::Stays))
             }
             Claimer::Building { .. } => Ok(self.building_again()?),
             Claimer::Voting {
@@ -35,13 +36,13 @@ impl<'a> Member<'a> {
             } => {
                 let to = missing(&self.weights, voted);
                 let sends = self.proposed(open.unit, *claim, value, to)?;
-                Ok(Step::saying(sends, ClaimChange::Stays))
+                Ok(MemberStep::saying(sends, ClaimChange::Stays))
             }
         }
     }
 
-    /// The job is given again.
-    fn building_again(&self) -> Result<Step, Memory>
+    /// Gives the job again.
+    fn building_again(&self) -> Result<MemberStep, Memory>
         ensures { IfOk result (λ step. step ≡ record {
           note = None;
           sends = [];
@@ -53,7 +54,7 @@ impl<'a> Member<'a> {
             Some(job) => (Some(job.copy()?), Some(job.copy()?)),
             None => (None, None),
         };
-        Ok(Step {
+        Ok(MemberStep {
             outcome: Outcome {
                 note: None,
                 sends: Sends::nothing(),

@@ -4,10 +4,10 @@ use ballots::Claimer;
 /// The one claim that a member may have open.
 #[derive(Drop)]
 pub struct OpenClaim {
-    /// The number of the unit that it is for.
+    /// The number of its unit.
     pub unit: u32,
     /// The host that is to build it.
     pub host: u16,
-    /// How far it is.
+    /// Its progress.
     pub claimer: Claimer,
 }

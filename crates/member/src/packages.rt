@@ -1,18 +1,17 @@
-//! Packages in order of path, and what a build makes of them.
+//! Packages in order of path, and the packages of a build.
 ghost use Rattle.std.specs.Prelude.{◌≡◌, ◌<◌, ◌⊎◌, All, IfOk, OnOk, Some, if◌then◌else◌};
 ghost use Rattle.std.specs.Prelude.{MatchResult, false, length, map, true};
 ghost use Rattle.std.specs.Str.{bytes_eq};
 ghost use Rattle.faults.specs.Bytes.{Text};
 ghost use Rattle.claims.specs.Deps.{is_ascending};
 ghost use Rattle.indexmap.specs.IndexMap.{get};
-ghost use Rattle.listing.specs.Tree.{ArePositions, IsTree, name_at, path_at, run_at};
+ghost use Rattle.engine.specs.Tree.{ArePositions, IsTree, name_at, path_at, run_at};
 ghost use Rattle.protocol.specs.Jobs.{in_order_of_path};
 ghost use Rattle.member.specs.inside.Packages.{files_at, have_files, made_at, made_of};
 
-use engine::paths_at;
+use engine::{Tree, paths_at};
 use faults::Memory;
 use indexmap::IndexMap;
-use listing::Tree;
 use package_record::{Files, Package};
 use pkgpath::PkgPath;
 use protocol::{Packages, Refusal};
@@ -34,7 +33,7 @@ pub(crate) fn in_order<'a>(
     Ok(paths)
 }
 
-/// Equal paths, in their order.
+/// Copies of the paths, in the same order.
 pub(crate) fn copied(alloc: Global, paths: &[&PkgPath]) -> Result<Vec<PkgPath>, Memory>
     ensures { IfOk result (λ copies. copies.items ≡ map (λ path. path.now) paths.now) }
 {
@@ -58,7 +57,7 @@ pub(crate) fn paths_of(
     copied(alloc, paths.as_slice())
 }
 
-/// The files by the paths of their packages; of those of one path the first.
+/// The files by the paths of their packages; if a path occurs more than once, its first files.
 pub(crate) fn by_path(alloc: Global, packages: Packages) -> Result<IndexMap<PkgPath, Files>, Memory>
     ensures { IfOk result
         (λ files. (path : Text) → get bytes_eq files path ≡ files_at packages path) }
@@ -72,7 +71,7 @@ pub(crate) fn by_path(alloc: Global, packages: Packages) -> Result<IndexMap<PkgP
     Ok(files)
 }
 
-/// Keeps the files of the path, in place of those that it had.
+/// Sets the files of the path, in place of earlier ones.
 fn keep(files: &mut IndexMap<PkgPath, Files>, path: PkgPath, given: Files) -> Result<(), Memory>
     ensures { OnOk result ((q : Text) → get bytes_eq files.new q
         ≡ (if bytes_eq path q then Some given else get bytes_eq files.old q)) }
@@ -81,8 +80,8 @@ fn keep(files: &mut IndexMap<PkgPath, Files>, path: PkgPath, given: Files) -> Re
     Ok(())
 }
 
-/// What the build makes of these packages, with the files that are given for them, which are taken
-/// out. Without files for one of them it is `OtherPackages`.
+/// The packages of the build at these positions, with their files, which are taken out of `files`.
+/// Fails with `OtherPackages` if one of them has no files.
 pub(crate) fn made(
     alloc: Global,
     tree: &Tree,
@@ -120,7 +119,7 @@ fn run_at(alloc: Global, tree: &Tree, position: u32) -> Result<Vec<PkgPath>, Mem
     copied(alloc, run.as_slice())
 }
 
-/// What the build makes of the package at the position, of these files.
+/// The package of the build at the position, with these files.
 fn package_at(alloc: Global, tree: &Tree, position: u32, files: Files) -> Result<Package, Memory>
     requires tree { IsTree tree.now }
     requires position { position < length tree.now }

@@ -1,4 +1,4 @@
-//! Who gets a message.
+//! The receivers of messages.
 ghost use Rattle.std.specs.Prelude.{◌≡◌, ◌==◌, ◌∷◌, [], filter, length, not};
 ghost use Rattle.std.specs.List.{range_with_len};
 ghost use Rattle.ballots.specs.Support.{set_of};
@@ -6,7 +6,7 @@ ghost use Rattle.ballots.specs.Support.{set_of};
 use arrayvec::ArrayVec;
 use ballots::{Tally, Weights};
 
-/// All members, in order of number.
+/// All members, in ascending order.
 pub(crate) fn everyone(weights: &Weights) -> ArrayVec<u8, 9>
     ensures { result.items ≡ range_with_len 0 (length weights.now) }
 {
@@ -17,7 +17,7 @@ pub(crate) fn everyone(weights: &Weights) -> ArrayVec<u8, 9>
     members
 }
 
-/// All members but this one, in order of number.
+/// All members but this one, in ascending order.
 pub(crate) fn others(weights: &Weights, me: u8) -> ArrayVec<u8, 9>
     ensures { result.items ≡ filter (λ k. not (k == me)) (range_with_len 0 (length weights.now)) }
 {
@@ -30,7 +30,7 @@ pub(crate) fn others(weights: &Weights, me: u8) -> ArrayVec<u8, 9>
     members
 }
 
-/// The members that did not join, in order of number.
+/// The members that did not join, in ascending order.
 pub(crate) fn missing(weights: &Weights, tally: &Tally) -> ArrayVec<u8, 9>
     ensures { result.items ≡
         filter (λ k. not (set_of tally.now k)) (range_with_len 0 (length weights.now)) }
@@ -44,7 +44,7 @@ pub(crate) fn missing(weights: &Weights, tally: &Tally) -> ArrayVec<u8, 9>
     members
 }
 
-/// This member alone.
+/// Only this member.
 pub(crate) fn one(member: u8) -> ArrayVec<u8, 9>
     ensures { result.items ≡ member ∷ [] }
 {

@@ -1,7 +1,7 @@
-//! What a member tells of its state.
+//! Getters of a member's state.
 ghost use Rattle.std.specs.Prelude.{◌≡◌, ◌<◌, length, option_map};
 ghost use Rattle.std.specs.Option.{option_copied};
-ghost use Rattle.agreement.specs.Votes.{report_of};
+ghost use Rattle.claims.specs.Votes.{report_of};
 ghost use Rattle.engine.specs.State as engines;
 ghost use Rattle.protocol.specs.Answers.{tree_digest};
 ghost use Rattle.protocol.specs.Member.{IsMember};
@@ -14,28 +14,27 @@ use crate::held::HeldRecord;
 use crate::{Member, OpenClaim};
 use ballots::{Claimer, Weights};
 use claims::{Claim, Job};
-use engine::{Counts, Letter, Units};
-use listing::Tree;
+use engine::{Counts, Letter, Tree, Units};
 use package_record::{Build, Record};
 use pkgpath::PkgPath;
 use std::alloc::Global;
 
 impl<'a> Member<'a> {
-    /// The tree that it is over.
+    /// The member's tree.
     pub fn tree(&self) -> &'a Tree
         ensures { result.now ≡ self.now.division.tree }
     {
         self.tree
     }
 
-    /// The digest of its tree, by which messages of other trees are told.
+    /// The tree's digest, by which messages of other trees are recognized.
     pub fn tree_digest(&self) -> &[u8; 32]
         ensures { result.now ≡ tree_digest self.now.division.tree }
     {
         &self.digest
     }
 
-    /// The units of the tree, which facts are kept by.
+    /// The units of the tree. Facts are kept by unit.
     pub fn units(&self) -> &Units<'a>
         ensures division { result.now ≡ self.now.division }
         ensures member { IsMember self.now }
@@ -43,7 +42,7 @@ impl<'a> Member<'a> {
         &self.units
     }
 
-    /// What each member weighs.
+    /// The weight of each member.
     pub fn weights(&self) -> &Weights
         ensures weights { result.now ≡ self.now.weights }
         ensures member { IsMember self.now }
@@ -51,7 +50,7 @@ impl<'a> Member<'a> {
         &self.weights
     }
 
-    /// Its number among them.
+    /// The member's own number.
     pub fn me(&self) -> u8
         ensures me { result ≡ self.now.me }
         ensures member { IsMember self.now }
@@ -67,7 +66,7 @@ impl<'a> Member<'a> {
         Some(held.record())
     }
 
-    /// The record that is held for the package path, with the digest that may be kept of it.
+    /// The record that is held for the package path, with its digest if that is cached.
     pub(crate) fn held_record(&self, path: &PkgPath) -> Option<HeldRecord<'_>>
         ensures { result ≡ held_record self.now path.now }
     {
@@ -86,7 +85,7 @@ impl<'a> Member<'a> {
         self.engine.letter(position)
     }
 
-    /// The least position at or behind this one with the letter Q, if a package has it.
+    /// The least position from this one on with the letter Q, if there is one.
     pub fn queued_from(&self, from: u32) -> Option<u32>
         ensures queued { engines.IsQueuedFrom (engine_of self.now) from result }
         ensures member { IsMember self.now }
@@ -117,7 +116,7 @@ impl<'a> Member<'a> {
         self.job.as_ref()
     }
 
-    /// The greatest round that it opened for the unit that the path names, or 0.
+    /// The greatest round that the member opened for the unit that the path names, or 0.
     pub fn opened(&self, path: &PkgPath) -> u64
         ensures { result ≡ (facts_named self.now path.now).opened }
     {
@@ -127,7 +126,8 @@ impl<'a> Member<'a> {
         }
     }
 
-    /// The greatest claim that it promised, or voted under, for the unit that the path names.
+    /// The greatest claim that the member promised, or voted under, for the unit that the path
+    /// names.
     pub fn promised(&self, path: &PkgPath) -> Option<Claim>
         ensures { result ≡ (facts_named self.now path.now).promised }
     {
@@ -135,7 +135,7 @@ impl<'a> Member<'a> {
         self.known[unit as usize].voter.promised
     }
 
-    /// Its last vote for the unit that the path names: the claim, and what it voted for.
+    /// The member's last vote for the unit that the path names: the claim, and the build.
     pub fn voted(&self, path: &PkgPath) -> Option<&(Claim, Build)>
         ensures { report_of (option_copied result) ≡ (facts_named self.now path.now).voted }
     {
@@ -143,8 +143,8 @@ impl<'a> Member<'a> {
         self.known[unit as usize].voter.voted.as_ref()
     }
 
-    /// A build of the unit that the path names, if one is held or proposed: the one that is held,
-    /// else the proposal of the open claim. One that comes again is mostly this.
+    /// A known build of the unit that the path names: the one that is held, or else the proposal of
+    /// the open claim. A build that is received again is usually this one.
     pub fn known_build(&self, path: &PkgPath) -> Option<&Build>
         ensures { option_copied result ≡ known_build self.now path.now }
     {
@@ -155,13 +155,13 @@ impl<'a> Member<'a> {
         }
     }
 
-    /// What its collections are kept by.
+    /// The allocator of the member's collections.
     pub fn allocator(&self) -> Global {
         *self.known.allocator()
     }
 }
 
-/// What the claim proposes, if it is for the unit and waits for votes.
+/// What the claim proposes, if it is for the unit and is voted on.
 fn proposed(claim: Option<&OpenClaim>, unit: u32) -> Option<&Build>
     ensures { option_copied result
         ≡ proposal_in (option_map open_of (option_copied claim.entry)) unit }

@@ -1,4 +1,4 @@
-//! A step that is prepared, and not yet taken.
+//! A step that is prepared but not yet taken.
 ghost use Rattle.std.specs.Prelude.{◌≡◌, [], None};
 ghost use Rattle.std.specs.Option.{option_copied};
 
@@ -8,31 +8,32 @@ use claims::Job;
 use protocol::{Outcome, Sends};
 use std::marker::Model;
 
-/// What becomes of the open claim.
+/// How a step changes the open claim.
 #[derive(Drop)]
 pub enum ClaimChange {
     /// It stays as it is.
     Stays,
-    /// This one takes its place.
+    /// It is replaced by this one.
     Becomes(OpenClaim),
-    /// It is done with.
+    /// It ends.
     Ends,
     /// A promise or a vote is counted for it.
     Counts(ClaimerChange),
 }
 
-/// A step with all that it grew. What it is to note and to send can be told before it is taken.
+/// A prepared step with all that it allocated. Its note and messages can be read before it is
+/// taken.
 #[derive(Drop)]
-pub struct Step {
+pub struct MemberStep {
     pub(crate) outcome: Outcome,
-    /// What the member keeps of the note.
+    /// The fact that the member keeps.
     pub(crate) kept_fact: Option<Fact>,
-    /// What it keeps of the job, once its claim comes to wait for a build.
+    /// The job that the member keeps, if the claim now waits for a build.
     pub(crate) kept_job: Option<Job>,
     pub(crate) change: ClaimChange,
 }
 
-impl Model for Step {
+impl Model for MemberStep {
     ghost use Rattle.member.specs.Prepared.{Prepared};
 
     ghost Value = { Prepared };
@@ -44,36 +45,36 @@ impl Model for Step {
     ghost invariant = { IsKept };
 }
 
-impl Step {
-    /// What has to be on the log before anything goes out.
+impl MemberStep {
+    /// The note that has to be on the log before anything is sent.
     pub fn note(&self) -> Option<&Note>
         ensures { option_copied result ≡ self.now.note }
     {
         self.outcome.note.as_ref()
     }
 
-    /// What goes out then, in order of receiver.
+    /// What is sent then, in order of receiver.
     pub fn sends(&self) -> &Sends
         ensures { result.now ≡ self.now.sends }
     {
         &self.outcome.sends
     }
 
-    /// The step, with this change of the open claim in place of its own.
-    pub(crate) fn with_change(self, change: ClaimChange) -> Step
+    /// The step, with its change of the open claim replaced by this one.
+    pub(crate) fn with_change(self, change: ClaimChange) -> MemberStep
         ensures { result ≡ record self { change = change } }
     {
-        Step { change, ..self }
+        MemberStep { change, ..self }
     }
 
-    /// A step that notes nothing: this goes out, and this becomes of the open claim.
-    pub(crate) fn saying(sends: Sends, change: ClaimChange) -> Step
+    /// A step without a note, which sends these messages and makes this change of the open claim.
+    pub(crate) fn saying(sends: Sends, change: ClaimChange) -> MemberStep
         ensures note { result.note ≡ None }
         ensures sends { result.sends ≡ sends }
         ensures job { result.job ≡ None }
         ensures change { result.change ≡ change }
     {
-        Step {
+        MemberStep {
             outcome: Outcome {
                 note: None,
                 sends,
@@ -85,13 +86,13 @@ impl Step {
         }
     }
 
-    /// A step that notes and says nothing, and changes nothing.
-    pub(crate) fn nothing() -> Step
+    /// A step that notes, sends and changes nothing.
+    pub(crate) fn nothing() -> MemberStep
         ensures note { result.note ≡ None }
         ensures sends { result.sends ≡ [] }
         ensures job { result.job ≡ None }
         ensures change { result.change ≡ ClaimChange.Stays }
     {
-        Step::saying(Sends::nothing(), ClaimChange::Stays)
+        MemberStep::saying(Sends::nothing(), ClaimChange::Stays)
     }
 }

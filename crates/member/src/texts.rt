@@ -1,10 +1,10 @@
-//! The texts of listed packages, which what a member keeps of builds shares.
+//! Texts of listed packages, which the builds that a member keeps share.
 ghost use Rattle.std.specs.Prelude.{◌≡◌, IfOk};
 
 use ballots::Body;
 use claims::Texts;
+use engine::Tree;
 use faults::Memory;
-use listing::Tree;
 use pkgname::PkgName;
 use pkgpath::PkgPath;
 
@@ -15,7 +15,7 @@ pub(crate) struct Listed<'a> {
 }
 
 impl<'a> Listed<'a> {
-    /// An equal body. A build in it names packages by the tree's texts.
+    /// An equal body. A build in it shares the tree's texts for the packages' names and paths.
     pub(crate) fn body(&self, body: Body) -> Result<Body, Memory>
         ensures { IfOk result (λ same. same ≡ body) }
     {
@@ -50,7 +50,7 @@ impl<'a> Texts for Listed<'a> {
     }
 }
 
-/// The path, which shares the text of this one, if it is equal.
+/// An equal path. It shares the text of `listed` if they are equal.
 fn same_path(listed: &PkgPath, path: PkgPath) -> PkgPath
     ensures { result ≡ path }
 {
@@ -61,7 +61,7 @@ fn same_path(listed: &PkgPath, path: PkgPath) -> PkgPath
     }
 }
 
-/// The name, which shares the text of this one, if it is equal.
+/// An equal name. It shares the text of `listed` if they are equal.
 fn same_name(listed: &PkgName, name: PkgName) -> PkgName
     ensures { result ≡ name }
 {

@@ -1,4 +1,4 @@
--- What a crash leaves where nothing was done yet.
+-- What a crash leaves if nothing was done yet.
 use Rattle.std.proofs.Common.{⊎_elim, ℕ, List, [], ◌∷◌, arith, length-take, subst, sym, take}
 use Rattle.std.proofs.lemmas.Bool.{cases_lt}
 use Rattle.std.proofs.lemmas.List.{get_or-take, get_or_past}
@@ -13,7 +13,7 @@ bytes_taken n xs are k = ⊎_elim
     (λ past. omega (arith, get_or_past (take n xs) k 0 (omega (arith, past, length-take n xs))))
     (cases_lt k n)
 
--- it is a file of bytes
+-- what it leaves is a file of bytes
 left_is_bytes : (h : History) (c : List ℕ) → MayLeave h c → IsBytes c
 left_is_bytes [] c is = subst IsBytes (sym is) (λ k. omega arith)
 left_is_bytes (stands file ∷ h) c is = is.1
@@ -25,7 +25,7 @@ left_is_bytes (cut_to len file ∷ h) c (d, left, cut) = ⊎_elim
     cut
 left_is_bytes (synced ∷ h) c is = is.1
 
--- so it opens as what could be left
+-- so it opens as something that a crash could leave
 pub not_begun : (i : Identity) (h : History) → AllAlong (OpensAsLeft i h) h h
 not_begun i h = at_first (λ c left. record {
   left = c;

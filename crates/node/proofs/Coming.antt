@@ -1,4 +1,4 @@
--- Bytes that come to a node.
+-- Bytes that a node receives.
 use Rattle.std.proofs.Common.{◌≡◌, ◌⊎◌, ⊎_elim, inl, inr, true, false, List, Option, None, Some, Result, Ok, Err, IfOk, OnOk, refl, sym, subst, ap, ◌∙◌}
 use Rattle.faults.specs.Answers.{map_ok}
 use Rattle.faults.specs.Bytes.{Text}
@@ -25,13 +25,13 @@ use Rattle.node.specs.declared.fault.Foreign.{Foreign}
 use Rattle.node.specs.declared.fault.Foreign.TheVariants as foreign
 use Rattle.node.specs.declared.fault.NodeFault.{NodeFault}
 use Rattle.node.specs.declared.fault.NodeFault.TheVariants as fault
-use Rattle.node.specs.declared.ready.Change.{Change}
-use Rattle.node.specs.declared.ready.Change.TheVariants as change
+use Rattle.node.specs.declared.prepared_step.Change.{Change}
+use Rattle.node.specs.declared.prepared_step.Change.TheVariants as change
 use Rattle.node.specs.inside.Stepping.{AreKept, ComesAs, MakesReady, dropped_by, foreign_by, left_at, strange_by}
 
--- ---- what is refused
+-- ---- refusals
 
--- a step on bytes is refused only where they are foreign
+-- a step on received bytes is only refused as foreign
 refused_as_foreign : (s : State) (a : Arrival) (f : NodeFault) → step_on s a ≡ Err f → (x : Foreign) × (f ≡ fault.Foreign x)
 refused_as_foreign s (Strange x pieces) f e = (x, (let same : Err (fault.Foreign x) ≡ Err f = e in cc))
 refused_as_foreign s (Waits pieces) f e = absurd (let no : Ok (record { answer = nothing s; pieces = pieces }) ≡ Err f = e in cc)
@@ -41,7 +41,7 @@ refused_as_foreign s (Whole m pieces) f e = by (members.heard s m) e
     by (Ok a) e = absurd (let no : Ok (record { answer = a; pieces = pieces }) ≡ Err f = e in cc)
     by (Err r) e = (foreign.Message r, (let same : Err (fault.Foreign (foreign.Message r)) ≡ Err f = e in cc))
 
--- what bytes that mean nothing are to the node
+-- the refusal of bytes that mean nothing
 pub told_strange : (f : WireFault) → (strange_by f ≡ fault.Memory) ⊎ (strange_by f ≡ fault.Foreign (foreign.Bytes f))
 told_strange wire.Memory = inl refl
 told_strange wire.TooLong = inr refl
@@ -51,7 +51,7 @@ told_strange wire.Kind = inr refl
 told_strange wire.BadField = inr refl
 told_strange wire.Trailing = inr refl
 
--- a stopped node refuses, whatever comes
+-- a stopped node refuses any bytes
 pub stopped_bytes : (n : NodeState) (text : Text) → n.stopped ≡ true → HasPrepared n n (Comes text) (Err fault.Stopped)
 stopped_bytes n text stopped = record {
   right = Err fault.Stopped;
@@ -86,7 +86,7 @@ module _ (n : NodeState) (text : Text) (running : n.stopped ≡ false) where
       by : (g f : NodeFault) → f ≡ g → left_at n a (Err g) ≡ left_by n (Comes text) g → left_at n a (Err f) ≡ left_by n (Comes text) f
       by g f e same = subst (λ (f : NodeFault). left_at n a (Err f) ≡ left_by n (Comes text) f) (sym e) same
 
-  -- bytes that spell no datagram are refused
+  -- bytes that don't encode a datagram are refused
   pub bytes_strange : (f : WireFault) → (f ≡ wire.Memory) ⊎ (datagram_of text ≡ Err f) → HasPrepared n n (Comes text) (Err (strange_by f))
   bytes_strange f read = bytes_refused n (strange_by f) (record { given = given; safe = tt }) (stays given)
     where
@@ -106,7 +106,7 @@ module _ (n : NodeState) (text : Text) (running : n.stopped ≡ false) where
 
 -- ---- pieces
 
--- a message that is whole leaves the node as it is, until its step is taken
+-- a complete message leaves the node unchanged until its step is taken
 whole_stays : (n : NodeState) (m : Message Value) (pieces : List Piece) (result : Result ReadyStep NodeFault) → n ≡ left_at n (Whole m pieces) result
 whole_stays n m pieces (Ok r) = refl
 whole_stays n m pieces (Err fault.Memory) = refl
@@ -115,13 +115,13 @@ whole_stays n m pieces (Err (fault.Log f)) = refl
 whole_stays n m pieces (Err fault.Stopped) = refl
 whole_stays n m pieces (Err (fault.Foreign f)) = refl
 
--- so it comes as a message
+-- so it is handled as a message
 pub whole_comes : (n new : NodeState) (m : Message Value) (pieces : List Piece) (result : Result ReadyStep NodeFault) → new ≡ n
     → MakesReady n (heard pieces (members.heard n.member m)) result → ComesAs n new (Whole m pieces) result
 whole_comes n new m pieces result same made = record { ready = made; state = same ∙ whole_stays n m pieces result }
 
 module _ (n new : NodeState) (text : Text) (running : n.stopped ≡ false) (a' : Arrival) (is : arrival_of n.member n.pieces (datagram_of text) ≡ a') where
-  -- what the call on bytes has done, by what they are to the node
+  -- what the call on bytes has done, by their meaning to the node
   pub bytes_done : (result : Result ReadyStep NodeFault) → ComesAs n new a' result → HasPrepared n new (Comes text) (map_ok (taken_by n) result)
   bytes_done (Ok r) comes =
       subst (λ (new : NodeState). HasPrepared n new (Comes text) (Ok (taken_by n r))) (sym comes.state)
@@ -136,13 +136,13 @@ module _ (n new : NodeState) (text : Text) (running : n.stopped ≡ false) (a' :
       (bytes_may n text running r (subst (λ (a : Arrival). MakesReady n (step_on n.member a) (Ok r)) (sym is) comes.ready))
   bytes_left (Err f) comes = tt
 
--- what is made ready leaves the node, and its log, as they were
+-- making a step ready leaves the node and its log unchanged
 pub both_stay : {D : Type 0} (old new : LoggedNode D) (a : Arrival) (result : Result ReadyStep NodeFault) → ComesAs old.node new.node a result → new.log ≡ old.log → OnOk result (new ≡ old)
 both_stay old new a (Ok r) comes same =
     ap (λ (n : NodeState). record { node = n; log = new.log }) comes.state ∙ ap (λ l. record { node = old.node; log = l }) same
 both_stay old new a (Err f) comes same = tt
 
--- what a step that only changes the pieces leaves is a node
+-- a step that only changes the pieces leaves a node
 waits_leaves : (n : NodeState) (pieces : List Piece) → IsNode n → AreKept n.member pieces → IsNode (after n (record { answer = nothing n.member; pieces = pieces }))
 waits_leaves n pieces is kept = subst (λ (s : State). IsNode (record { member = s; notes = n.notes; pieces = pieces; stopped = n.stopped })) (member_stays n is)
     (record {
@@ -160,7 +160,7 @@ module _ (n : NodeState) (p : Piece) where
   abbrev h : Header
   h = p.header
 
-  -- memory is wanting
+  -- memory ran out
   pub comes_lost : (a : Arrival) → ComesAs n n a (Err fault.Memory)
   comes_lost a = record { ready = record { given = inl refl; safe = tt }; state = refl }
 
@@ -169,7 +169,7 @@ module _ (n : NodeState) (p : Piece) where
       → MakesReady n (heard pieces (members.heard n.member m)) result → ComesAs n new (arrival_of_all pieces r) result
   comes_whole new m pieces r result e same made = rw e (record { ready = made; state = same ∙ whole_stays n m pieces result })
 
-  -- or to none
+  -- or they don't
   pub comes_strange : (new : NodeState) (r : Result (Message Value) WireFault) (f : WireFault) → (f ≡ wire.Memory) ⊎ (r ≡ Err f) → new ≡ dropped_by n h f
       → ComesAs n new (arrival_of_all (without h n.pieces) r) (Err (strange_by f))
   comes_strange new r f read state = by f read state
@@ -213,16 +213,16 @@ module _ (n : NodeState) (p : Piece) where
     state = refl;
   }
 
-  -- it has come before
+  -- the piece was received before
   pub comes_again : (o : Option Refusal) → o ≡ None → has_number h n.pieces p.number ≡ true → IsNode n → ComesAs n n (arrival_of_piece n.pieces p o) (Ok (record { step = None; change = change.Stays }))
   comes_again o e has is = rw (e, has) (waits_ready n.pieces change.Stays is refl (record { each = is.pieces; once = is.once; let_through = is.let_through }))
 
-  -- it is kept, since others are missing
+  -- it is kept, because others are missing
   pub comes_kept : (o : Option Refusal) → o ≡ None → has_number h n.pieces p.number ≡ false → are_all h (with_piece n.pieces p) ≡ false → IsNode n → AreKept n.member (with_piece n.pieces p)
       → ComesAs n n (arrival_of_piece n.pieces p o) (Ok (record { step = None; change = change.Keeps p }))
   comes_kept o e has all is kept = rw (e, has, all) (waits_ready (with_piece n.pieces p) (change.Keeps p) is refl kept)
 
-  -- it is the last of its message
+  -- it is the last missing one of its message
   pub comes_last : (new : NodeState) (result : Result ReadyStep NodeFault) (o : Option Refusal) → o ≡ None → has_number h n.pieces p.number ≡ false → are_all h (with_piece n.pieces p) ≡ true
       → ComesAs n new (arrival_of_all (without h n.pieces) (joined h (bytes_of h (with_piece n.pieces p)))) result → ComesAs n new (arrival_of_piece n.pieces p o) result
   comes_last new result o e has all comes = rw (e, has, all) comes

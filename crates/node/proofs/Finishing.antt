@@ -1,4 +1,4 @@
--- A step that is taken, and what a log's refusal leaves.
+-- A step that is taken, and the state after a refusal of the log.
 use Rattle.std.proofs.Common.{◌≡◌, ◌⊎◌, ⊎_elim, inl, inr, ◌+◌, ◌++◌, All, arith, length, length-append, Bool, true, false, List, [], ◌∷◌, Option, None, Some, Ok, Err, Result, IsErrOf, option_map, refl, sym, subst, ap, ◌∙◌, if◌then◌else◌}
 use Rattle.std.specs.Int.{to_be_bytes, w32}
 use Rattle.std.specs.Option.{ForSome}
@@ -6,7 +6,7 @@ use Rattle.std.proofs.lemmas.Grind.{flat_map-append}
 use Rattle.std.proofs.lemmas.List.{map-append}
 use Rattle.std.proofs.lemmas.List.Elements.{All-head, All-tail}
 use Rattle.faults.specs.Bytes.{Text}
-use Rattle.agreement.specs.Member.{Facts}
+use Rattle.claims.specs.Member.{Facts}
 use Rattle.ballots.specs.declared.message.Note.{Note}
 use Rattle.member.specs.Prepared.{Prepared, answer_by}
 use Rattle.protocol.specs.Answers.{after as member_after}
@@ -29,7 +29,7 @@ use Rattle.node.specs.State.{IsNode, LoggedNode, NodeState, restored_member, wit
 use Rattle.node.specs.Step.{IsReadyFor, ReadyStep, after, answer_then, changed, note_in, running_step, sends_in, taken_by}
 use Rattle.node.specs.Parcels.{datagrams_to}
 use Rattle.node.specs.declared.fault.NodeFault.{NodeFault}
-use Rattle.node.specs.declared.ready.Out.{Out}
+use Rattle.node.specs.declared.prepared_step.Effects.{Effects}
 use Rattle.node.specs.declared.fault.NodeFault.TheVariants as fault
 use Rattle.node.specs.Noted.{notes_in}
 use Rattle.node.specs.inside.Stepping.{GoesOnWith, HasRoomForText, IsNoteCause, LacksRoomFor, committed, entry_len, with_text}
@@ -43,13 +43,13 @@ takes_when_running n asked t takes = by n.stopped takes.right_is
     by true e = absurd (let no : Ok t ≡ Err fault.Stopped = e in cc)
     by false e = refl
 
--- so one that is ready for a step is not
+-- so a node that is ready for a step is not
 pub runs : (n : NodeState) (r : ReadyStep) → IsReadyFor n r → n.stopped ≡ false
 runs n r ready = takes_when_running n ready.asked (taken_by n r) ready.takes
 
 -- ---- notes
 
--- the note is one of those with it
+-- the note is the last one, if there is one
 pub last_note : (P : Note Value → Type 0) (notes : List (Note Value)) (note : Option (Note Value)) → All P (with_note notes note) → ForSome note P
 last_note P notes None all = λ n e. absurd (let no : None ≡ Some n = e in cc)
 last_note P notes (Some m) all = λ n e. subst P (let same : m ≡ n = cc in same) (at_end notes all)
@@ -58,25 +58,25 @@ last_note P notes (Some m) all = λ n e. subst P (let same : m ≡ n = cc in sam
     at_end [] all = All-head P m [] all
     at_end (k ∷ ks) all = at_end ks (All-tail P k (ks ++ m ∷ []) all)
 
--- the texts with that of a note are those of the notes with it
+-- the texts of the notes, with this one added
 pub texts_with : (notes : List (Note Value)) (note : Option (Note Value)) → texts_of (with_note notes note) ≡ with_text (texts_of notes) (option_map note_text note)
 texts_with notes None = refl
 texts_with notes (Some n) = map-append note_text notes (n ∷ [])
 
--- where the gate stands behind these texts and one more, if there is one
+-- the place of the gate after these texts and one more, if there is one
 place_with : (i : Identity) (texts : List Text) (text : Option Text) → gate_place i (with_text texts text) ≡ gate_place i texts + entry_len text
 place_with i texts None = omega arith
 place_with i texts (Some t) =
     omega (arith, ap length (flat_map-append entry texts (t ∷ [])), length-append (entries texts) (entries (t ∷ [])), length-append (entry t) [], length-append (open_gate ∷ to_be_bytes w32 (length t)) t)
 
--- and they are read as these notes
+-- and they are parsed as these notes
 pub notes_with : (texts : List Text) (note : Option (Note Value)) → ForSome note IsNote → notes_in (with_text texts (option_map note_text note)) ≡ with_note (notes_in texts) note
 notes_with texts None is = refl
 notes_with texts (Some n) is = note_more texts n (is n refl)
 
 -- ---- the member
 
--- what the answer leaves of the member is what the step leaves
+-- the answer and the step leave the member in the same state
 pub members_step : StepsAreTheMembers
 members_step n t is =
     sym (ap (λ (fs : List (Facts Value)). record n.member { facts = fs; claim = t.answer.claim }) (facts_after n.member n.notes t.answer.note is.restored))
@@ -87,7 +87,7 @@ pub member_taken : (n : NodeState) (is : IsNode n) (p : Prepared)
 member_taken n is p =
     ap (λ (fs : List (Facts Value)). record n.member { facts = fs; claim = (answer_by n.member p).claim }) (facts_after n.member n.notes p.note is.restored)
 
--- and it stays where the member takes no step
+-- and it is unchanged if the member takes no step
 pub member_stays : (n : NodeState) (is : IsNode n) → n.member ≡ record (restored_member n.member n.notes) { claim = n.member.claim }
 member_stays n is = ap (λ (fs : List (Facts Value)). record n.member { facts = fs }) is.restored
 
@@ -98,17 +98,17 @@ pub lacks : {D : Type 0} (l : Log D) (note : Option (Note Value)) → LacksRoomF
 lacks l None over = over
 lacks l (Some n) over = over
 
--- and it has room for the note where it has it for the text
+-- and it has room for the note if it has it for the text
 pub has_room : {D : Type 0} (l : Log D) (note : Option (Note Value)) → HasRoomForText l (option_map note_text note) → HasRoomForNote l note
 has_room l None room = room
 has_room l (Some n) room = room
 
--- a note that has no room has none for its text
+-- if it lacks room for the note, it does for the text
 pub lacks_text : {D : Type 0} (l : Log D) (note : Option (Note Value)) → LacksRoom l note → LacksRoomFor l (option_map note_text note)
 lacks_text l None over = over
 lacks_text l (Some n) over = over
 
--- a fault is one, whatever the answer would be
+-- the fault of a result, or a default
 abbrev fault_or : {T E : Type 0} → E → Result T E → E
 fault_or f (Ok x) = f
 fault_or f (Err e) = e
@@ -118,7 +118,7 @@ same_fault e f is = ap Err (ap (fault_or e) is)
 
 -- ---- the step
 
--- what a step sends, notes and gives to be built
+-- the messages, the note and the job of a step
 pub sends_are : (s : State) (step : Option Prepared) → (answer_then s step).sends ≡ sends_in step
 sends_are s None = refl
 sends_are s (Some p) = refl
@@ -127,7 +127,7 @@ pub note_is : (s : State) (step : Option Prepared) → (answer_then s step).note
 note_is s None = refl
 note_is s (Some p) = refl
 
--- what is noted can be written down
+-- the note can be encoded
 pub noted_good : (n : NodeState) (r : ReadyStep) → IsNode (after n (taken_by n r)) → ForSome (note_in r.step) IsNote
 noted_good n r leaves = subst (λ (note : Option (Note Value)). ForSome note IsNote) (note_is n.member r.step) (last_note IsNote n.notes (answer_then n.member r.step).note leaves.notes)
 
@@ -136,7 +136,7 @@ module _ (s : State) (texts : List Text) (pieces : List Piece) (stopped : Bool) 
   abbrev pub node_with : NodeState
   node_with = record { member = s; notes = notes_in texts; pieces = pieces; stopped = stopped }
 
-  -- is the one that the step leaves, once the step was taken
+  -- the node of these fields is the one that the step leaves, after it is taken
   pub finished : IsNode node_with → (r : ReadyStep) → ForSome (note_in r.step) IsNote → (text : Option Text) → text ≡ option_map note_text (note_in r.step)
       → record { member = committed s r.step; notes = notes_in (with_text texts text); pieces = changed r.change pieces; stopped = stopped } ≡ after node_with (taken_by node_with r)
   finished is r good text e = by r.step good e
@@ -155,7 +155,7 @@ module _ {D : Type 0} (history : D → History) (s : State) (texts : List Text) 
   abbrev pub before : LoggedNode D
   before = record { node = node_with s texts pieces stopped; log = l }
 
-  -- where the log had no call, a crash leaves the notes as it did
+  -- without a call of the log a crash leaves the same notes as before
   pub no_moments : IsOnLog history before → LeavesOneMoreAtMost before.node (note_in r.step) (history l.disk) (history l.disk)
   no_moments on = by (note_in r.step)
     where
@@ -168,7 +168,7 @@ module _ {D : Type 0} (history : D → History) (s : State) (texts : List Text) 
       by None = refl
       by (Some n) = subst (λ i. AllAlong (HasBeforeOrAfter i (texts_of before.node.notes) (note_text n)) (history l.disk) (history l.disk)) on.owner (at_first (files (note_text n)))
 
-  -- where it had one, it leaves the notes with this one or without
+  -- with one it leaves the notes, either with or without this one
   pub note_moments : (old new : History) → text ≡ option_map note_text (note_in r.step) → ((ts : List Text) → Holds history l ts → GoesOnWith l.identity ts text old new) → IsOnLog history before
       → LeavesOneMoreAtMost before.node (note_in r.step) old new
   note_moments old new e goes on = by (note_in r.step) e
@@ -177,24 +177,24 @@ module _ {D : Type 0} (history : D → History) (s : State) (texts : List Text) 
       by None e = rw e at (goes (texts_of before.node.notes) on.holds)
       by (Some n) e = rw (e, on.owner) at (goes (texts_of before.node.notes) on.holds)
 
-  -- the step was taken: these are the member, the texts, the pieces and the log then
+  -- the step was taken: these are the member, the texts, the pieces and the log afterwards
   module _ (is : IsLogged before) (ready : IsReadyFor before.node r) (e : text ≡ option_map note_text (note_in r.step))
       (new : State) (more : List Text) (had left : List Piece) (stops : Bool) (now : Log D)
       (member : new ≡ committed s r.step) (noted : more ≡ with_text texts text) (had_them : had ≡ pieces) (kept : left ≡ changed r.change had) (running : stops ≡ false) where
-    -- the node is as the step says
+    -- the node is changed by the step
     pub done_state : node_with new more left stops ≡ after before.node (taken_by before.node r)
     done_state =
         let same : stops ≡ stopped = running ∙ sym (runs before.node r ready) in
         rw (member, noted, kept, had_them, same) (finished s texts pieces stopped is.node r (noted_good before.node r ready.leaves) text e)
 
-    -- the notes are those that its log has then
+    -- the notes are those that its log has afterwards
     has_texts : texts_of (notes_in more) ≡ with_text (texts_of (notes_in texts)) text
     has_texts =
         let notes : notes_in more ≡ with_note (notes_in texts) (note_in r.step) =
         rw (noted, e) (notes_with texts (note_in r.step) (noted_good before.node r ready.leaves)) in
         ap texts_of notes ∙ texts_with (notes_in texts) (note_in r.step) ∙ ap (with_text (texts_of (notes_in texts))) (sym e)
 
-    -- the log is still its member's
+    -- the log is still this member's
     same_owner : identity_of new ≡ identity_of s
     same_owner = ap identity_of member ∙ same r.step
       where
@@ -211,15 +211,15 @@ module _ {D : Type 0} (history : D → History) (s : State) (texts : List Text) 
       end = end ∙ ap (λ n. n + entry_len text) is.end ∙ sym (place_with (identity_of s) (texts_of (notes_in texts)) text) ∙ λ j. gate_place (sym same_owner j) (sym has_texts j);
     }
 
-    -- what comes out is what it tells
-    pub done_taken : (out : Out) → out.sends ≡ datagrams_to (sends_in r.step) → out.job ≡ (answer_then s r.step).job
+    -- what is given out is that of the step
+    pub done_taken : (out : Effects) → out.sends ≡ datagrams_to (sends_in r.step) → out.job ≡ (answer_then s r.step).job
         → HasTaken before.node (node_with new more left stops) (taken_by before.node r) out
     done_taken out sends job = record {
       state = done_state;
       tells = record { sends = sends ∙ ap datagrams_to (sym (sends_are s r.step)); job = job };
     }
 
-    -- its notes are on the log
+    -- the node agrees with its log
     pub done_on_log : now.identity ≡ l.identity → ((ts : List Text) → Holds history l ts → Holds history now (with_text ts text)) → IsOnLog history before
         → IsOnLog history (record { node = node_with new more left stops; log = now })
     done_on_log owner acknowledged on =
@@ -227,7 +227,7 @@ module _ {D : Type 0} (history : D → History) (s : State) (texts : List Text) 
 
 -- ---- a refusal of the log
 
--- why the note was not taken
+-- why the note was not written
 pub cause_told : {D : Type 0} (l : Log D) (noted : Option (Note Value)) (text : Option Text) (f : NodeFault) → text ≡ option_map note_text noted → IsNoteCause l text f → IsLogCause l noted f
 cause_told l noted text fault.Memory e cause = tt
 cause_told l noted text (fault.Refused r) e cause = cause
@@ -240,7 +240,7 @@ cause_told l noted text (fault.Log log.OtherCluster) e cause = cause
 cause_told l noted text fault.Stopped e cause = cause
 cause_told l noted text (fault.Foreign f) e cause = cause
 
--- the node once the note was not taken
+-- the node after the note was not written
 module _ {D : Type 0} (history : D → History) (s : State) (texts : List Text) (pieces : List Piece) (stopped : Bool) (l : Log D) (stops : Bool) (now : Log D) (f : NodeFault) where
   pub still_logged : IsLogged (record { node = node_with s texts pieces stopped; log = l }) → now.stopped ≡ stops → now.identity ≡ l.identity → now.end ≡ l.end → IsLogged (record { node = node_with s texts pieces stops; log = now })
   still_logged is together owner end = record {
@@ -259,11 +259,11 @@ module _ {D : Type 0} (history : D → History) (s : State) (texts : List Text) 
     end = end ∙ is.end;
   }
 
-  -- it stays, unless the device failed
+  -- it is unchanged, unless the device failed
   pub still_node : stopped ≡ false → (f ≡ fault.Log log.Device) ⊎ (stops ≡ false) → (f ≡ fault.Log log.Device) ⊎ (node_with s texts pieces stops ≡ node_with s texts pieces stopped)
   still_node running stays = ⊎_elim (λ e. inl e) (λ e. inr (ap (λ (b : Bool). node_with s texts pieces b) (e ∙ sym running))) stays
 
-  -- and so do its notes on the log
+  -- and so are its notes on the log
   pub still_noted : now.identity ≡ l.identity → IsOnLog history (record { node = node_with s texts pieces stopped; log = l })
       → ((ts : List Text) → Holds history l ts → (f ≡ fault.Log log.Device) ⊎ (Holds history now ts × (history now.disk ≡ history l.disk)))
       → (f ≡ fault.Log log.Device) ⊎ (IsOnLog history (record { node = node_with s texts pieces stops; log = now }) × (history now.disk ≡ history l.disk))

@@ -1,10 +1,10 @@
--- Which pieces are among those that are kept.
+-- Which pieces are kept.
 use Rattle.std.proofs.Common.{◌≡◌, ◌==◌, ◌&&◌, ◌||◌, ℕ, Bool, true, false, List, [], ◌∷◌, eq-eqb, refl, sym, ◌∙◌}
 use Rattle.std.specs.Str.{bytes_eq}
 use Rattle.std.proofs.lemmas.List.Folds.{list_any-append}
 use Rattle.std.proofs.lemmas.Slice.Eq.{bytes_eq-Decides}
-use Rattle.agreement.specs.Claims.{claim_same}
-use Rattle.agreement.specs.declared.claim.Claim.{Claim}
+use Rattle.claims.specs.Claims.{claim_same}
+use Rattle.claims.specs.declared.claim.Claim.{Claim}
 use Rattle.wire.specs.Joining.{is_numbered, same_carrier, same_header}
 use Rattle.wire.specs.declared.datagram.Carrier.{Carrier}
 use Rattle.wire.specs.declared.datagram.Carrier.TheVariants as carriers
@@ -23,7 +23,7 @@ carrier_itself (carriers.Promise c d) = both (claim_same c c) (claim_same d d) (
 carrier_itself (carriers.Propose c) = same_claim c
 carrier_itself carriers.Agreed = refl
 
--- each header is itself
+-- each header equals itself
 pub header_itself : (h : Header) → same_header h h ≡ true
 header_itself h =
     let bytes : (t : List ℕ) → bytes_eq t t ≡ true = λ t. (bytes_eq-Decides t t).1 refl in
@@ -36,7 +36,7 @@ or_true : (a b : Bool) → b ≡ true → (a || (b || false)) ≡ true
 or_true true b e = refl
 or_true false b e = rw e refl
 
--- a piece is among those with it
+-- a piece is among those with it added
 pub with_it : (pieces : List Piece) (p : Piece) (k : ℕ) → k ≡ p.number → has_number p.header (with_piece pieces p) k ≡ true
 with_it pieces p k e =
     let same : is_numbered p.header k p ≡ true = both (p.number == k) (same_header p.header p.header) (eq-eqb p.number k (sym e)) (header_itself p.header) in

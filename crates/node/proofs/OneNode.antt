@@ -1,7 +1,7 @@
--- A file opens as one thing.
+-- A file opens in one way only.
 use Rattle.std.proofs.Common.{◌≡◌, inl, inr, ℕ, List, Ok, Err, Result, MatchResult, refl, sym, subst, ap, ◌∙◌}
 use Rattle.faults.specs.Bytes.{Text}
-use Rattle.listing.specs.Tree.{Tree}
+use Rattle.engine.specs.Tree.{Tree}
 use Rattle.stable_record.specs.Log.{Note as Bytes}
 use Rattle.stable_record.specs.Opening.{HasOneAnswer, Opens}
 use Rattle.stable_record.specs.declared.identity.Identity.{Identity}
@@ -22,7 +22,7 @@ module _ (tree : Tree) (weights : List ℕ) (me : ℕ) (one : HasOneAnswer (iden
       ap (λ (x : NodeState). identity_of x.member) is.node ∙ ap (λ (t : Tree). identity t weights me) is.of_tree in
       subst (λ (i : Identity). Opens i file (Ok (texts_of n.notes))) own opens
 
-  -- it has notes, or is refused
+  -- it either has notes or is refused
   never_both : (texts : List Bytes) (f : LogFault) → Opens (identity tree weights me) file (Ok texts) → Opens (identity tree weights me) file (Err f) → ⊥
   never_both texts f opens refused =
       let two : Ok texts ≡ Err f = one.no_second file (Ok texts) (Err f) opens refused in
@@ -37,7 +37,7 @@ module _ (tree : Tree) (weights : List ℕ) (me : ℕ) (one : HasOneAnswer (iden
   same_texts a b first second =
       let two : Ok a ≡ Ok b = one.no_second file (Ok a) (Ok b) first second in cc
 
-  -- two nodes of it are one
+  -- two nodes of it are equal
   one_opened : (n m : NodeState) → OpensNode tree weights me file (Ok n) → OpensNode tree weights me file (Ok m) → n ≡ m
   one_opened n m first second =
       let is = first.0 in
@@ -47,7 +47,7 @@ module _ (tree : Tree) (weights : List ℕ) (me : ℕ) (one : HasOneAnswer (iden
       let d : is.division ≡ was.division = one_way is.division was.division (is.of_tree ∙ sym was.of_tree) is.divided was.divided in
       is.node ∙ (λ j. opened_node (d j) weights me (notes j)) ∙ sym was.node
 
-  -- a node's file has its notes
+  -- the file of a node has notes
   no_node : (n : NodeState) → OpensNode tree weights me file (Ok n) → OpensNode tree weights me file (Err log.NotALog) → ⊥
   no_node n first (inl refused) = never_both (texts_of n.notes) log.NotALog (texts_open n first) refused
   no_node n first (inr (texts, opens, bad)) =
@@ -58,7 +58,7 @@ module _ (tree : Tree) (weights : List ℕ) (me : ℕ) (one : HasOneAnswer (iden
   not_others : (n : NodeState) → OpensNode tree weights me file (Ok n) → OpensNode tree weights me file (Err log.OtherCluster) → ⊥
   not_others n first others = never_both (texts_of n.notes) log.OtherCluster (texts_open n first) others
 
-  -- nor is a file that has no node another's
+  -- a file without a node is not another member's either
   no_node_of_others : OpensNode tree weights me file (Err log.NotALog) → OpensNode tree weights me file (Err log.OtherCluster) → ⊥
   no_node_of_others (inl refused) others = never_two refused others
   no_node_of_others (inr (texts, opens, bad)) others = never_both texts log.OtherCluster opens others
@@ -95,11 +95,11 @@ module _ (tree : Tree) (weights : List ℕ) (me : ℕ) (one : HasOneAnswer (iden
   one_thing (Err f) (Ok n) a b = absurd (never_refused n f b a)
   one_thing (Err f) (Err g) a b = ap Err (refused_once f g a b)
 
--- no file opens as two things, where the log's answer is one
+-- each file opens in one way only, if each log has one answer
 pub opens_as_one : (tree : Tree) (weights : List ℕ) (me : ℕ) (i : Identity) → i ≡ identity tree weights me → HasOneAnswer i → OpensAsOne tree weights me
 opens_as_one tree weights me i owner one = one_thing tree weights me (subst HasOneAnswer owner one)
 
--- whatever a call answers
+-- whatever a call returns
 pub whichever : {T E : Type 0} (r : Result T E) (P : Type 0) (Q : E → Type 0) → P → MatchResult r (λ x. P) (λ e. Q e → P)
 whichever (Ok x) P Q p = p
 whichever (Err e) P Q p = λ q. p

@@ -1,4 +1,4 @@
--- A node has one answer, and what follows for a step whose note has no room.
+-- A node has one answer, and the consequences for a step whose note doesn't fit.
 use Rattle.std.proofs.Common.{◌≡◌, ⊎_elim, Bool, true, false, None, Ok, Err, Result, if◌then◌else◌, refl, sym, subst, ap, ◌∙◌}
 use Rattle.engine.specs.declared.Letter.{Letter}
 use Rattle.protocol.proofs.OneAnswer.{one_answer}
@@ -13,7 +13,7 @@ use Rattle.node.specs.declared.fault.NodeFault.{NodeFault}
 use Rattle.node.specs.declared.fault.NodeFault.TheVariants as fault
 
 module _ (n : NodeState) where
-  -- the letter that a claim looks at is one
+  -- the letter for a claim is unique
   alike : (stopped : Bool) (input : Input) (l m : Letter)
       → IsLetterOf n.member (if stopped then None else unit_claimed n.member input) l
       → IsLetterOf n.member (if stopped then None else unit_claimed n.member input) m
@@ -26,14 +26,14 @@ module _ (n : NodeState) where
       (record { letter = l; shown = first; right = refl })
       (record { letter = m; shown = second; right = refl }))
 
-  -- so there is one step, or one refusal
+  -- so there is one step or one refusal
   pub one_step : (asked : Asked) (a b : Result Taken NodeFault) → Takes n asked a → Takes n asked b → a ≡ b
   one_step (Does input) a b first second =
       first.right_is ∙ alike n.stopped input first.letter second.letter first.shown second.shown ∙ sym second.right_is
   one_step (Comes text) a b first second = first.right_is ∙ sym second.right_is
 
 module _ {D : Type 0} (n : LoggedNode D) (asked : Asked) (filled : HasFilled n asked) (m : NodeState) where
-  -- a step without room is not refused before its note is written, unless memory is wanting
+  -- a step without room is not refused before its note is written, unless memory runs out
   pub filled_is_ready : (f : NodeFault) → HasPrepared n.node m asked (Err f) → f ≡ fault.Memory
   filled_is_ready f prepared = ⊎_elim
       (λ memory. memory)
@@ -42,7 +42,7 @@ module _ {D : Type 0} (n : LoggedNode D) (asked : Asked) (filled : HasFilled n a
       absurd (let no : Ok filled.step ≡ Err f = two in cc))
       prepared.given
 
-  -- and the step that is ready is that one
+  -- and the ready step is that one
   pub ready_lacks : (r : ReadyStep) → HasPrepared n.node m asked (Ok (taken_by n.node r)) → LacksRoom n.log (note_in r.step)
   ready_lacks r prepared =
       let two : Ok filled.step ≡ Ok (taken_by n.node r) = one_step n.node asked (Ok filled.step) (Ok (taken_by n.node r)) filled.takes (subst (Takes n.node asked) prepared.given prepared.takes) in

@@ -1,10 +1,10 @@
--- A node that is opened.
+-- A node after it is opened.
 use Rattle.std.proofs.Common.{◌≡◌, ◌⊎◌, inl, inr, ℕ, false, List, [], IfErr, IfOk, None, Ok, Err, Result, arith, refl, sym, subst, ap, ◌∙◌}
 use Rattle.std.specs.Prelude.{◌≢◌}
 use Rattle.std.proofs.lemmas.List.Elements.{All-nil}
 use Rattle.faults.specs.Bytes.{Text}
 use Rattle.ballots.specs.declared.message.Note.{Note}
-use Rattle.listing.specs.Tree.{Tree}
+use Rattle.engine.specs.Tree.{Tree}
 use Rattle.protocol.proofs.Restored.{notes_restore}
 use Rattle.protocol.specs.Restoring.{restored}
 use Rattle.protocol.specs.State.{State, Value, fresh}
@@ -32,7 +32,7 @@ use Rattle.node.specs.Noted.{notes_in}
 use Rattle.node.specs.inside.Opening.{IsNew, IsNoteFault, IsOver, told_by}
 
 module _ (s : State) (new : IsNew s) (texts : List Text) (notes : List (Note Value)) (are : AreNotes s.division texts notes) where
-  -- what its notes restore is a node
+  -- what its notes restore is a valid node
   opened_is_node : IsNode (opened_node s.division s.weights s.me notes)
   opened_is_node = record {
     member = (notes_restore s.division s.weights s.me notes new.divided new.weights new.one_of_them are.on_units).member;
@@ -56,13 +56,13 @@ module _ (s : State) (new : IsNew s) (texts : List Text) (notes : List (Note Val
   pub opened_invariant : (n : NodeState) → n ≡ opened_node s.division s.weights s.me notes → IsNode n
   opened_invariant n is = subst IsNode (sym is) opened_is_node
 
--- the log of a member that knows nothing yet is that of its tree, of members that weigh so
+-- the log of a member that knows nothing yet has the identity of its tree and weights
 pub owner_of_new : (s : State) (tree : Tree) (weights : List ℕ) (me : ℕ) → s ≡ fresh s.division weights me → s.division.tree ≡ tree
     → identity_of s ≡ identity tree weights me
 owner_of_new s tree weights me new of_tree =
     λ j. identity (of_tree j) (ap (λ (t : State). t.weights) new j) (ap (λ (t : State). t.me) new j)
 
--- ---- what both answers of a call say
+-- ---- what holds for both results of a call
 
 pub both_ok : {T E : Type 0} (r : Result T E) (P Q R : T → Type 0) → ((x : T) → P x → Q x → R x) → IfOk r P → IfOk r Q → IfOk r R
 both_ok (Ok x) P Q R f p q = f x p q
@@ -74,7 +74,7 @@ both_err (Err e) P Q R f p q = f e p q
 
 -- ---- the file's notes
 
--- what the file opens as are the node's notes
+-- the file opens with the node's notes
 pub opens_as : (s : State) (tree : Tree) (weights : List ℕ) (me : ℕ) → s ≡ fresh s.division weights me → s.division.tree ≡ tree → (texts : List Text) (n : NodeState) → IsOver s texts n
     → (i : Identity) → i ≡ identity tree weights me → (file : List ℕ) → Opens i file (Ok texts) → Opens (identity_of n.member) file (Ok (texts_of n.notes))
 opens_as s tree weights me new of_tree texts n over i owner file opens =
@@ -85,20 +85,20 @@ opens_as s tree weights me new of_tree texts n over i owner file opens =
 
 -- ---- the tree's division
 
--- a tree is divided in one way
+-- a tree has only one division
 pub one_way : (d e : Division) → d.tree ≡ e.tree → IsDivision d → IsDivision e → d ≡ e
 one_way d e same a b =
     let units : d.units ≡ e.units = one_division d.tree d.units e.units a.units (subst (λ (t : Tree). AreUnits t e.units) (sym same) b.units) in
     λ i. record { tree = same i; units = units i }
 
--- texts that are no notes over it are none of the tree
+-- texts that are not notes over this division are not notes over the tree
 pub bad_notes : (d : Division) (tree : Tree) (texts : List Text) → d.tree ≡ tree → IsDivision d → ((given : List (Note Value)) → ¬ AreNotes d texts given) → HasBadNotes tree texts
 bad_notes d tree texts of_tree is bad e notes same other are =
     bad notes (subst (λ (x : Division). AreNotes x texts notes) (one_way e d (same ∙ sym of_tree) other is) are)
 
 -- ---- refusals
 
--- what is told of the device is its failure
+-- only a failure of the device is reported as that
 pub told_device : (f : LogFault) → told_by f ≡ fault.Log log.Device → f ≡ log.Device
 told_device log.Memory e = absurd (let no : fault.Memory ≡ fault.Log log.Device = e in cc)
 told_device log.Device e = refl
@@ -108,7 +108,7 @@ told_device log.NotALog e = absurd (let no : fault.Log log.NotALog ≡ fault.Log
 told_device log.OtherCluster e = absurd (let no : fault.Log log.OtherCluster ≡ fault.Log log.Device = e in cc)
 
 module _ (tree : Tree) (weights : List ℕ) (me : ℕ) (i : Identity) (owner : i ≡ identity tree weights me) where
-  -- what the log refuses
+  -- a refusal of the log
   pub log_refused : (old new : History) (f : LogFault) → ((f ≡ log.NotALog) ⊎ (f ≡ log.OtherCluster) → Opens i (seen old) (Err f) × OnlySyncs old new)
       → (f ≢ log.Full) × (f ≢ log.MustReopen) → IsOpenFault tree weights me (seen old) (told_by f)
   log_refused old new log.Memory refused neither = tt
@@ -118,7 +118,7 @@ module _ (tree : Tree) (weights : List ℕ) (me : ℕ) (i : Identity) (owner : i
   log_refused old new log.NotALog refused neither = inl (subst (λ (j : Identity). Opens j (seen old) (Err log.NotALog)) owner (refused (inl refl)).0)
   log_refused old new log.OtherCluster refused neither = subst (λ (j : Identity). Opens j (seen old) (Err log.OtherCluster)) owner (refused (inr refl)).0
 
-  -- what the log refuses as no log of the member stays
+  -- a file that is not a log of the member is left unchanged
   pub log_untouched : (old new : History) (f : LogFault) → ((f ≡ log.NotALog) ⊎ (f ≡ log.OtherCluster) → Opens i (seen old) (Err f) × OnlySyncs old new)
       → IsUntouched tree weights me (told_by f) old new
   log_untouched old new log.Memory refused (inl e) = absurd (let no : fault.Memory ≡ fault.Log log.OtherCluster = e in cc)
@@ -133,14 +133,14 @@ module _ (tree : Tree) (weights : List ℕ) (me : ℕ) (i : Identity) (owner : i
   log_untouched old new log.OtherCluster refused e = (refused (inr refl)).1
 
   module _ (d : Division) (of_tree : d.tree ≡ tree) (is : IsDivision d) (texts : List Text) (old new : History) (opens : Opens i (seen old) (Ok texts)) where
-    -- what its notes are refused for
+    -- a refusal of the notes
     pub notes_refused : (f : NodeFault) → IsNoteFault d texts f → IsOpenFault tree weights me (seen old) f
     notes_refused f (inl none) = subst (IsOpenFault tree weights me (seen old)) (sym none) tt
     notes_refused f (inr (e, bad)) =
         let right = subst (λ (j : Identity). Opens j (seen old) (Ok texts)) owner opens in
         subst (IsOpenFault tree weights me (seen old)) (sym e) (inr (texts, right, bad_notes d tree texts of_tree is bad))
 
-    -- those are not of a file that is no log
+    -- a refusal of notes is not one of a file that isn't a log
     pub notes_untouched : HasOneAnswer i → (f : NodeFault) → IsNoteFault d texts f → IsUntouched tree weights me f old new
     notes_untouched one f (inl none) (inl e) = absurd (let no : fault.Memory ≡ fault.Log log.OtherCluster = sym none ∙ e in cc)
     notes_untouched one f (inl none) (inr e) = absurd (let no : fault.Memory ≡ fault.Log log.NotALog = sym none ∙ e.0 in cc)
@@ -149,7 +149,7 @@ module _ (tree : Tree) (weights : List ℕ) (me : ℕ) (i : Identity) (owner : i
         let two : Ok texts ≡ Err log.NotALog = one.no_second (seen old) (Ok texts) (Err log.NotALog) opens (subst (λ (j : Identity). Opens j (seen old) (Err log.NotALog)) (sym owner) e.1) in
         absurd (let no : Ok texts ≡ Err log.NotALog = two in cc)
 
-    -- nor of a failure of the device
+    -- nor a failure of the device
     pub notes_no_device : (f : NodeFault) → IsNoteFault d texts f → f ≢ fault.Log log.Device
     notes_no_device f (inl none) e = (let no : fault.Memory ≡ fault.Log log.Device = sym none ∙ e in cc)
     notes_no_device f (inr bad) e = (let no : fault.Log log.NotALog ≡ fault.Log log.Device = sym bad.0 ∙ e in cc)

@@ -24,15 +24,15 @@ use Rattle.node.specs.Arrival.{refusal_of}
 use Rattle.node.specs.Kept.{has_number, with_piece, without}
 use Rattle.node.specs.inside.Stepping.{AreKept}
 
--- the second is not the first again
+-- the second piece differs from the first
 abbrev pub Differ : Piece → Piece → Type 0
 Differ p q = is_numbered q.header q.number p ≡ false
 
--- no two of these are one piece
+-- no two of these are equal
 abbrev pub AreDifferent : List Piece → Type 0
 AreDifferent pieces = AllPairs Differ pieces
 
--- a test of those that are kept is one of all
+-- a test of those that are kept, as a test of all
 pub all_numbered : (f p : ℕ → Bool) (xs : List ℕ) → list_all f (filter p xs) ≡ list_all (λ k. not (p k) || f k) xs
 all_numbered f p [] = refl
 all_numbered f p (x ∷ xs) = by (p x) (all_numbered f p xs)
@@ -42,14 +42,14 @@ all_numbered f p (x ∷ xs) = by (p x) (all_numbered f p xs)
     by true rest = ap (λ b. f x && b) rest
     by false rest = rest
 
--- without some they stay what they are
+-- what is left without some of them are pieces
 pub without_pieces : (h : Header) (pieces : List Piece) → All IsPiece pieces → All IsPiece (without h pieces)
 without_pieces h pieces are = All-filter _ IsPiece pieces are
 
 pub without_once : (h : Header) (pieces : List Piece) → AreDifferent pieces → AreDifferent (without h pieces)
 without_once h pieces once = AllPairs-filter Differ (λ p. not (same_header h p.header)) pieces once
 
--- with one more they are pieces
+-- with one added they are pieces
 pub with_pieces : (pieces : List Piece) (p : Piece) → All IsPiece pieces → IsPiece p → All IsPiece (with_piece pieces p)
 with_pieces pieces p are is = All-append IsPiece pieces (p ∷ []) are (All-cons IsPiece p [] is (All-nil IsPiece))
 
@@ -57,7 +57,7 @@ neither : (a b : Bool) → (a || b) ≡ false → (a ≡ false) × (b ≡ false)
 neither true b e = absurd (let no : true ≡ false = e in cc)
 neither false b e = (refl, e)
 
--- with one more that is not among them no two are one
+-- with a new one added, no two are equal
 pub with_once : (pieces : List Piece) (p : Piece) → AreDifferent pieces → has_number p.header pieces p.number ≡ false → AreDifferent (with_piece pieces p)
 with_once [] p once new = AllPairs-cons Differ p [] (All-nil (Differ p)) (λ i j d lt within. absurd (omega (arith, within)))
 with_once (q ∷ qs) p once new =
@@ -78,7 +78,7 @@ joined_good h text m good e =
     let v = whole_build_taken build_taken h.path text a.0 a.1 in
     subst (λ (m : Message Value). IsGoodBody m.path m.body) (ok_is (message_with h a.0) m a.2) (body_good h.path h.carrier a.0 good.carrier v.0)
 
--- and so has a message that is written down
+-- and so has a message that can be encoded
 pub message_good : (name : Text) (body : Body Value) → IsBody name body → IsGoodBody name body
 message_good name (bodies.Offer c) is = is.round
 message_good name (bodies.Promise c None) is = (is.0.round, tt)
@@ -89,7 +89,7 @@ message_good name (bodies.Agreed v) is = is
 message_good name bodies.Ask is = tt
 message_good name (bodies.Nay c p) is = (is.0.round, is.1.round)
 
--- those of other messages stay kept
+-- the pieces of other messages are still valid
 pub others_kept : (s : State) (h : Header) (pieces : List Piece) → AreKept s pieces → AreKept s (without h pieces)
 others_kept s h pieces kept = record {
   each = without_pieces h pieces kept.each;
@@ -97,7 +97,7 @@ others_kept s h pieces kept = record {
   let_through = All-filter _ (λ p. refusal_of s p.header ≡ None) pieces kept.let_through;
 }
 
--- and with one that is new they are
+-- and so are those with a new one
 pub new_kept : (s : State) (pieces : List Piece) (p : Piece) → AreKept s pieces → IsPiece p → has_number p.header pieces p.number ≡ false → refusal_of s p.header ≡ None
     → AreKept s (with_piece pieces p)
 new_kept s pieces p kept is new through = record {

@@ -1,4 +1,4 @@
--- Which datagram stands at a place, where each of some receivers gets them all.
+-- The datagram at a place, if each receiver gets all of them.
 use Rattle.std.proofs.Common.{◌≡◌, ◌+◌, ◌*◌, ◌/◌, ◌%◌, ◌<◌, ◌++◌, ℕ, zero, suc, List, [], ◌∷◌, Option, None, Some, arith, length, refl, ap, sym, ◌∙◌, option_map, slice_get, ◌≤◌, get_or, Vec}
 use Rattle.std.proofs.lemmas.List.{length-map}
 use Rattle.std.proofs.lemmas.Nat.{div-add-mod'}
@@ -13,7 +13,7 @@ get_left [] ys j lt = absurd (omega arith)
 get_left (x ∷ xs) ys zero lt = refl
 get_left (x ∷ xs) ys (suc j) lt = get_left xs ys j (omega arith)
 
--- behind the first part
+-- after the first part
 get_right : {X : Type 0} (xs ys : List X) (i k : ℕ) → i ≡ length xs + k → slice_get (xs ++ ys) i ≡ slice_get ys k
 get_right [] ys i k e = let same : i ≡ k = omega arith in ap (slice_get ys) same
 get_right (x ∷ xs) ys zero k e = absurd (omega arith)
@@ -37,19 +37,19 @@ placed_at (r ∷ rs) texts i (suc q) j e lt =
     get_right (each_to texts r) (parcels_to rs texts) i (q * length texts + j) (omega arith)
     ∙ placed_at rs texts (q * length texts + j) q j refl lt
 
--- what stands at a place, by the receiver and the datagram
+-- the element at a place, by receiver and datagram
 pub parcel_at : (receivers : List ℕ) (texts : List Text) (place : ℕ) → 0 < length texts
     → slice_get (parcels_to receivers texts) place ≡ placed texts (place % length texts) (slice_get receivers (place / length texts))
 parcel_at receivers texts place some =
     placed_at receivers texts place (place / length texts) (place % length texts) (sym (div-add-mod' place (length texts))) (omega arith)
 
--- without datagrams nothing stands anywhere
+-- without datagrams there is nothing at any place
 pub none_without : (receivers : List ℕ) (texts : List Text) (place : ℕ) → length texts ≡ 0 → slice_get (parcels_to receivers texts) place ≡ None
 none_without [] texts place e = refl
 none_without (r ∷ rs) [] place e = none_without rs [] place e
 none_without (r ∷ rs) (t ∷ ts) place e = absurd (omega arith)
 
--- behind the last receiver nothing stands
+-- there is nothing after the last receiver
 pub none_behind : (receivers : List ℕ) (texts : List (Vec ℕ Global)) (count place : ℕ) → count ≡ length texts → 0 < count → length receivers ≤ place / count
     → slice_get (parcels_to receivers (texts_in texts)) place ≡ None
 none_behind receivers texts count place e some past =
@@ -57,7 +57,7 @@ none_behind receivers texts count place e some past =
     let past_all = slice_get_past receivers (place / length (texts_in texts)) (rw (← n) past) in
     parcel_at receivers (texts_in texts) place (omega arith) ∙ ap (placed (texts_in texts) (place % length (texts_in texts))) past_all
 
--- the receiver and the datagram that stand at a place
+-- the receiver and the datagram at a place
 pub one_stands : (receivers : List ℕ) (texts : List (Vec ℕ Global)) (count place to : ℕ) (text : Vec ℕ Global) → count ≡ length texts → 0 < count
     → place / count < length receivers → to ≡ get_or receivers (place / count) to → place % count < length texts → text ≡ get_or texts (place % count) text
     → Some (to, text.items) ≡ slice_get (parcels_to receivers (texts_in texts)) place

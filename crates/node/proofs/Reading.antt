@@ -1,4 +1,4 @@
--- The notes that the texts of a log are.
+-- The notes of the texts of a log.
 use Rattle.std.proofs.Common.{◌≡◌, ◌⊎◌, ⊎_elim, inl, inr, ◌++◌, ◌+◌, ◌<◌, ℕ, zero, suc, All, Bool, true, false, List, [], ◌∷◌, None, Some, Ok, Err, Vec, get_or, is_some, length, map, option_map, refl, slice_get, sym, take, ap, ◌∙◌}
 use Rattle.std.specs.declared.alloc.Global.{Global}
 use Rattle.std.proofs.lemmas.List.{map-append, take_more}
@@ -34,13 +34,13 @@ has_name d path name u false found is e =
     sym (ap is_some (named_not d path u found other))
 
 module _ (d : Division) where
-  -- what is read as no note is the text of none
+  -- a text that isn't parsed as a note is not that of a note
   pub not_read : (text : Text) (f : WireFault) → note_of text ≡ Err f → (n : Note Value) → ¬ IsNoteOf d text n
   not_read text f e n is =
       let no : Ok n ≡ Err f = sym (note_again build_is_read n is.note) ∙ ap note_of (sym is.read) ∙ e in
       cc
 
-  -- the answer to a text that is read as no note
+  -- the result for a text that isn't parsed as a note
   pub unread_is : (text : Text) (f : WireFault) → (f ≡ wire.Memory) ⊎ (note_of text ≡ Err f) → IsReadBy d text (Err (unread_by f))
   unread_is text f read = ⊎_elim (λ e. inl (ap unread_by e)) (λ e. by f (not_read text f e)) read
     where
@@ -53,20 +53,20 @@ module _ (d : Division) where
       by wire.BadField none = inr (refl, none)
       by wire.Trailing none = inr (refl, none)
 
-  -- a text is that of one note
+  -- a text is that of one note only
   read_as : (text : Text) (n m : Note Value) → IsNote m → text ≡ note_text m → IsNoteOf d text n → n ≡ m
   read_as text n m good e is =
       let same : Ok n ≡ Ok m = sym (note_again build_is_read n is.note) ∙ ap note_of (sym is.read ∙ e) ∙ note_again build_is_read m good in
       cc
 
-  -- what is of no unit is the text of no note of one
+  -- the text of a note that is not about a unit is not that of a note about one
   pub of_no_unit : (text : Text) (m : Note Value) → IsNote m → text ≡ note_text m → is_some (number_named d m.path) ≡ false → (n : Note Value) → ¬ IsNoteOf d text n
   of_no_unit text m good e none n is =
       let same = read_as text n m good e is in
       let no : true ≡ false = sym (ap is_some is.named) ∙ ap (λ (k : Note Value). is_some (number_named d k.path)) same ∙ none in
       cc
 
-  -- each text of such notes is that of one
+  -- each text of such notes is that of one of them
   among : (given : List (Note Value)) (k : ℕ) (t : Text) → slice_get (map note_text given) k ≡ Some t → All IsNote given → AreOnUnits d given → (n : Note Value) × IsNoteOf d t n
   among [] k t e each on = absurd (let no : None ≡ Some t = e in cc)
   among (n ∷ ns) zero t e each on =
@@ -74,13 +74,13 @@ module _ (d : Division) where
       (n, record { read = (let same : Some (note_text n) ≡ Some t = e in cc); note = All-head IsNote n ns each; unit = named.0; named = named.1 })
   among (n ∷ ns) (suc k) t e each on = among ns k t e (All-tail IsNote n ns each) (All-tail (λ x. (u : ℕ) × (number_named d x.path ≡ Some u)) n ns on)
 
-  -- so none is that of no note
+  -- so none of the texts is not a note's
   pub no_notes : (texts : List Text) (k : ℕ) (t : Text) → slice_get texts k ≡ Some t → ((n : Note Value) → ¬ IsNoteOf d t n) → (given : List (Note Value)) → ¬ AreNotes d texts given
   no_notes texts k t at none given are =
       let one = among given k t (ap (λ (ts : List Text). slice_get ts k) (sym are.read) ∙ at) are.each are.on_units in
       none one.0 one.1
 
-  -- with one note more they are notes
+  -- with one note added they are notes
   pub notes_more : (texts : List Text) (notes : List (Note Value)) (t : Text) (n : Note Value) → AreNotes d texts notes → IsNoteOf d t n → AreNotes d (texts ++ t ∷ []) (notes ++ n ∷ [])
   notes_more texts notes t n are is = record {
     read = ap (λ (ts : List Text). ts ++ t ∷ []) are.read ∙ ap (λ x. map note_text notes ++ x ∷ []) is.read ∙ sym (map-append note_text notes (n ∷ []));
@@ -89,13 +89,13 @@ module _ (d : Division) where
         (All-cons (λ x. (u : ℕ) × (number_named d x.path ≡ Some u)) n [] (is.unit, is.named) (All-nil (λ x. (u : ℕ) × (number_named d x.path ≡ Some u))));
   }
 
-  -- one of the file's texts that is read as no note of a unit
+  -- a text of the file that isn't parsed as a note about a unit
   pub not_notes : (texts : List (Vec ℕ Global)) (k : ℕ) (t : Vec ℕ Global) (f : NodeFault) → k < length texts → t ≡ get_or texts k t → IsReadBy d t.items (Err f) → IsNoteFault d (map logged texts) f
   not_notes texts k t f lt is read =
       let at : slice_get (map logged texts) k ≡ Some t.items = slice_get-map logged texts k ∙ ap (option_map logged) (slice_get-get_or texts k t lt ∙ ap Some (sym is)) in
       ⊎_elim (λ e. inl e) (λ bad. inr (bad.0, no_notes (map logged texts) k t.items at bad.1)) read
 
-  -- the texts that were read, with one more
+  -- the texts that were parsed, with one added
   pub texts_so_far : (texts : List (Vec ℕ Global)) (k : ℕ) (t : Vec ℕ Global) → k < length texts → t ≡ get_or texts k t
       → map logged (take (k + 1) texts) ≡ map logged (take k texts) ++ t.items ∷ []
   texts_so_far texts k t lt is =

@@ -21,23 +21,23 @@ use Rattle.node.specs.Step.{Does, IsReadyFor, ReadyStep, Takes, changed, heard, 
 use Rattle.node.specs.declared.fault.Foreign.TheVariants as foreign
 use Rattle.node.specs.declared.fault.NodeFault.{NodeFault}
 use Rattle.node.specs.declared.fault.NodeFault.TheVariants as fault
-use Rattle.node.specs.declared.ready.Change.{Change}
-use Rattle.node.specs.declared.ready.Change.TheVariants as change
+use Rattle.node.specs.declared.prepared_step.Change.{Change}
+use Rattle.node.specs.declared.prepared_step.Change.TheVariants as change
 use Rattle.node.specs.inside.Stepping.{AreKept, IsPrepared, IsSafe, MakesReady, foreign_by, refused_by}
 
 module _ (n : NodeState) (is : IsNode n) (input : Input) (good : IsGoodInput input) (step : Prepared) (answered : HasAnswered n.member input (Ok (answer_by n.member step))) where
-  -- the answer is the right one
+  -- the right answer
   abbrev a : Answer
   a = answer_by n.member step
 
   answer_is : answer n.member answered.answers.letter input ≡ Ok a
   answer_is = sym answered.answers.right ∙ answered.given
 
-  -- what it notes and says can be written down
+  -- what it notes and sends can be encoded
   pub step_written : CanBeWritten n.member a
   step_written = answers_written n.member answered.answers.letter input a is.member (node_in_range n is) good answer_is
 
-  -- it may be taken, and leaves a node
+  -- it may be taken, and leaves a valid node
   step_safe : MayBeTaken n.member step → (change : Change) → AreKept n.member (changed change n.pieces) → IsSafe n (record { step = Some step; change = change })
   step_safe may change kept = record {
     may = λ p e. subst (MayBeTaken n.member) (let same : step ≡ p = cc in same) may;
@@ -54,7 +54,7 @@ module _ (n : NodeState) (is : IsNode n) (input : Input) (good : IsGoodInput inp
     safe = step_safe may change kept;
   }
 
--- memory was wanting behind the member's step
+-- memory ran out after the member's step
 pub step_lost : (n : NodeState) (input : Input) (change : Change) (result : Result Answer Refusal) → HasAnswered n.member input result → IsPrepared n input change (Err refusals.Memory)
 step_lost n input change result answered = record {
   letter = answered.answers.letter;
@@ -76,7 +76,7 @@ step_refused n input change refusal answered = record {
 
 -- ---- messages
 
--- what a refusal of a message is to the node
+-- the refusal of a message, as the node returns it
 pub told_foreign : (r : Refusal) → (foreign_by r ≡ fault.Memory) ⊎ (foreign_by r ≡ fault.Foreign (foreign.Message r))
 told_foreign refusals.Memory = inl refl
 told_foreign refusals.Unlisted = inr refl
@@ -91,11 +91,11 @@ told_foreign refusals.NotAMember = inr refl
 told_foreign refusals.OtherPackages = inr refl
 
 module _ (n : NodeState) (m : Message Value) (change : Change) where
-  -- the message's step is made ready
+  -- the step on the message is ready
   pub message_ready : (r : ReadyStep) → IsPrepared n (inputs.Message m) change (Ok r) → MakesReady n (heard (changed change n.pieces) (members.heard n.member m)) (Ok r)
   message_ready r prepared = record { given = rw (prepared.given, prepared.changes) refl; safe = prepared.safe }
 
-  -- or refused
+  -- or it is refused
   pub message_refused : (refusal : Refusal) → IsPrepared n (inputs.Message m) change (Err refusal)
       → MakesReady n (heard (changed change n.pieces) (members.heard n.member m)) (Err (foreign_by refusal))
   message_refused refusal prepared =
@@ -109,7 +109,7 @@ module _ (n : NodeState) (m : Message Value) (change : Change) where
 
 -- ---- inputs
 
--- what a refusal of an input is to the node
+-- the refusal of an input, as the node returns it
 told_refused : (r : Refusal) → (refused_by r ≡ fault.Memory) ⊎ (refused_by r ≡ fault.Refused r)
 told_refused refusals.Memory = inl refl
 told_refused refusals.Unlisted = inr refl
@@ -123,7 +123,7 @@ told_refused refusals.OtherTree = inr refl
 told_refused refusals.NotAMember = inr refl
 told_refused refusals.OtherPackages = inr refl
 
--- a stopped node refuses, whatever it is asked
+-- a stopped node refuses any input
 pub stopped_input : (n : NodeState) (input : Input) → n.stopped ≡ true → HasPrepared n n (Does input) (Err fault.Stopped)
 stopped_input n input stopped = record {
   right = Err fault.Stopped;
@@ -133,7 +133,7 @@ stopped_input n input stopped = record {
 }
 
 module _ (n : NodeState) (input : Input) (running : n.stopped ≡ false) where
-  -- the step on an input is made ready
+  -- the step on an input is ready
   input_takes : (r : ReadyStep) → IsPrepared n input change.Stays (Ok r) → Takes n (Does input) (Ok (taken_by n r))
   input_takes r prepared = record { letter = prepared.letter; shown = rw running prepared.shown; right_is = rw (running, prepared.given, prepared.changes) refl }
 

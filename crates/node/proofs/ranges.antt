@@ -1,4 +1,4 @@
--- What members note and say can be written down, and what a step leaves is a node.
+-- What members note and send can be encoded, and a step leaves a valid node.
 pub mod Outcomes
 pub mod Written
 pub mod Restored

@@ -1,4 +1,4 @@
--- What bytes are to a node.
+-- What received bytes mean to a node.
 use Rattle.std.specs.Prelude.{◌≡◌, All, List, ◌∷◌, Option, None, Some, Result, Ok, Err, if◌then◌else◌}
 use Rattle.ballots.specs.declared.message.Message.{Message}
 use Rattle.protocol.specs.State.{State, Value}
@@ -15,22 +15,22 @@ use Rattle.wire.specs.declared.datagram.Datagram.TheVariants as datagram
 use Rattle.wire.specs.declared.datagram.Header.{Header}
 use Rattle.wire.specs.declared.datagram.Piece.{Piece}
 
--- what bytes are to a node, and the pieces that it keeps then
+-- what received bytes mean to a node, with the pieces that it keeps afterwards
 pub data Arrival : Type 0 where
-  -- They mean nothing to it.
+  -- The bytes mean nothing to it.
   Strange : Foreign → List Piece → Arrival
-  -- A piece came, and its message isn't whole yet.
+  -- It is a piece, and its message isn't complete yet.
   Waits : List Piece → Arrival
-  -- A message is whole, and the node handles it.
+  -- A message is complete, and the node handles it.
   Whole : Message Value → List Piece → Arrival
 
--- Once the last missing piece came the pieces of the message are dropped, whether or not they join
--- to one.
+-- once the last missing piece is there: the pieces of the message are dropped, whether or not they
+-- join to a message
 abbrev pub arrival_of_all : List Piece → Result (Message Value) WireFault → Arrival
 arrival_of_all rest (Ok m) = Whole m rest
 arrival_of_all rest (Err f) = Strange (foreign.Bytes f) rest
 
--- a piece that is not among these, which it joins
+-- a piece that is not among these: it is added, and the message is joined if it is complete
 abbrev pub arrival_of_new : List Piece → Piece → Arrival
 arrival_of_new pieces p =
     let all = with_piece pieces p in
@@ -38,21 +38,22 @@ arrival_of_new pieces p =
     then arrival_of_all (without p.header pieces) (joined p.header (bytes_of p.header all))
     else Waits all
 
--- A piece whose header the member refuses means nothing; one that the node has changes nothing.
+-- A piece whose header the member refuses means nothing. A piece that the node already has changes
+-- nothing.
 abbrev pub arrival_of_piece : List Piece → Piece → Option Refusal → Arrival
 arrival_of_piece pieces p (Some r) = Strange (foreign.Message r) pieces
 arrival_of_piece pieces p None =
     if has_number p.header pieces p.number then Waits pieces else arrival_of_new pieces p
 
--- why the member refuses the fields before the build
+-- why the member refuses the header, if it does
 abbrev pub refusal_of : State → Header → Option Refusal
 refusal_of s h = header_refusal s h.tree (h.sender ∷ members_in h.carrier) h.path
 
--- The member lets the headers of these pieces through: they name its tree, members, and its units.
+-- The member accepts the headers of these pieces: they name its tree, its members and its units.
 abbrev pub AreLetThrough : State → List Piece → Type 0
 AreLetThrough s pieces = All (λ p. refusal_of s p.header ≡ None) pieces
 
--- a datagram, or bytes that are none
+-- what a datagram means, or bytes that are not a datagram
 abbrev pub arrival_of : State → List Piece → Result Datagram WireFault → Arrival
 arrival_of s pieces (Err f) = Strange (foreign.Bytes f) pieces
 arrival_of s pieces (Ok (datagram.Whole m)) = Whole m pieces

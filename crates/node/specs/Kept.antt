@@ -1,5 +1,5 @@
--- The pieces that a node keeps of messages that are not whole yet. Headers are one if no field of
--- them differs.
+-- The pieces that a node keeps of messages that are not complete yet. Headers are equal if all
+-- their fields are.
 use Rattle.std.specs.Prelude.{ℕ, Bool, not, List, [], ◌∷◌, ◌++◌, filter}
 use Rattle.std.specs.List.{list_all, list_any}
 use Rattle.wire.specs.Joining.{is_numbered, same_header}
@@ -17,7 +17,7 @@ has_number h pieces k = list_any (is_numbered h k) pieces
 abbrev pub are_all : Header → List Piece → Bool
 are_all h pieces = list_all (has_number h pieces) (numbers_of h.length)
 
--- the pieces with one more
+-- the pieces with one added
 abbrev pub with_piece : List Piece → Piece → List Piece
 with_piece pieces p = pieces ++ p ∷ []
 
@@ -25,7 +25,7 @@ with_piece pieces p = pieces ++ p ∷ []
 abbrev pub without : Header → List Piece → List Piece
 without h pieces = filter (λ p. not (same_header h p.header)) pieces
 
--- the members that the claims before the build name
+-- the members of the claims that precede the build
 abbrev pub members_in : Carrier → List ℕ
 members_in (Promise c d) = c.member ∷ d.member ∷ []
 members_in (Propose c) = c.member ∷ []

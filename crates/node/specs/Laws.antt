@@ -9,7 +9,7 @@ abbrev pub OnlyRunningNodesTake : Type 0
 OnlyRunningNodesTake =
     (n : NodeState) (asked : Asked) (t : Taken) → Takes n asked (Ok t) → n.stopped ≡ false
 
--- A step leaves the node's member as the member's own answer leaves it.
+-- A step leaves the node's member in the state that the member's own answer leads to.
 abbrev pub StepsAreTheMembers : Type 0
 StepsAreTheMembers =
     (n : NodeState) (t : Taken) → IsNode n → (after n t).member ≡ members.after n.member t.answer

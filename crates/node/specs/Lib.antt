@@ -10,3 +10,6 @@ pub mod OnLog
 pub mod Calls
 pub mod Laws
 pub mod inside
+pub use Rattle.wire.specs.Messages
+pub use Rattle.wire.specs.declared.datagram.Piece
+pub use Rattle.member.specs.Prepared

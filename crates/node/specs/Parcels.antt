@@ -1,4 +1,4 @@
--- What goes out, as bytes with receivers.
+-- Sent messages, as bytes with receivers.
 use Rattle.std.specs.Prelude.{ℕ, List, map, flat_map, Vec}
 use Rattle.std.specs.declared.alloc.Global.{Global}
 use Rattle.faults.specs.Bytes.{Text}
@@ -16,11 +16,11 @@ texts_in texts = map (λ t. t.items) texts
 abbrev pub each_to : List Text → ℕ → List (ℕ × Text)
 each_to texts to = map (λ text. (to, text)) texts
 
--- all of these to each receiver, in order of receiver
+-- all of these to each of the receivers, in their order
 abbrev pub parcels_to : List ℕ → List Text → List (ℕ × Text)
 parcels_to receivers texts = flat_map (each_to texts) receivers
 
--- the datagrams that a message goes out as: its pieces in order of number, or itself
+-- the datagrams of a message: its pieces in order of number, or the message itself
 abbrev pub datagrams_of : Message Value → List Text
 datagrams_of m = map datagram_text (split_of m)
 

@@ -13,7 +13,7 @@ abbrev pub foreign_number : Foreign → ℕ
 foreign_number (Bytes f) = wire.number_of f
 foreign_number (Message r) = members.number_of r
 
--- the number by which each refusal is told
+-- the number that is reported for each refusal
 abbrev pub number_of : NodeFault → ℕ
 number_of fault.Memory = 1
 number_of (fault.Refused r) = members.number_of r
@@ -21,7 +21,7 @@ number_of (fault.Log f) = logs.number_of f
 number_of fault.Stopped = 1201
 number_of (fault.Foreign f) = 1202
 
--- the number of the refusal that led to it: of bad files, or of what makes a datagram foreign
+-- the number of the underlying refusal: of bad files, or of what makes a datagram foreign
 abbrev pub cause_of : NodeFault → Option ℕ
 cause_of fault.Memory = None
 cause_of (fault.Refused r) = members.cause_of r

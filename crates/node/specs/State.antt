@@ -1,4 +1,4 @@
--- What a contract sees of a node: its member, the notes on its log, and the pieces that it keeps.
+-- How contracts see a node: its member, the notes on its log, and the pieces that it keeps.
 use Rattle.std.specs.Prelude.{◌≡◌, ◌++◌, ℕ, All, AllPairs, Bool, false, List, [], ◌∷◌, Option, None, Some}
 use Rattle.ballots.specs.declared.message.Note.{Note}
 use Rattle.protocol.specs.Member.{IsMember}
@@ -15,26 +15,26 @@ use Rattle.wire.specs.declared.datagram.Piece.{Piece}
 
 -- a node
 pub record NodeState : Type 0 where
-  -- what it knows by unit, and its open claim
+  -- what it knows of each unit, and its open claim
   pub member : State
-  -- the notes that its log has, in the order in which they were written
+  -- the notes on its log, oldest first
   pub notes : List (Note Value)
-  -- the pieces of messages that are not whole yet, in the order in which they came
+  -- the pieces of incomplete messages, oldest first
   pub pieces : List Piece
-  -- its device failed, so that it has to be opened again
+  -- its device failed, and it has to be opened again
   pub stopped : Bool
 
--- a node, and the log that it stands on
+-- a node, and its log
 pub record LoggedNode (D : Type 0) : Type 0 where
   pub node : NodeState
   pub log : Log D
 
--- the member of the same tree and number with what the notes restore, and no open claim
+-- a member of the same tree, weights and number, with what the notes restore and no open claim
 abbrev pub restored_member : State → List (Note Value) → State
 restored_member s notes = restored (fresh s.division s.weights s.me) notes
 
--- What holds of each node. What it knows for good is what its notes restore; and what it noted, and
--- keeps, can be written down.
+-- What holds of each node. What it knows permanently is what its notes restore, and all that it
+-- noted and keeps can be encoded.
 pub record IsNode (n : NodeState) : Type 0 where
   pub member : IsMember n.member
   pub restored : n.member.facts ≡ (restored_member n.member n.notes).facts
@@ -46,7 +46,7 @@ pub record IsNode (n : NodeState) : Type 0 where
   pub once : AllPairs (λ p q. is_numbered q.header q.number p ≡ false) n.pieces
   pub let_through : AreLetThrough n.member n.pieces
 
--- the node as it is opened: it has what the notes restore, no open claim, and no pieces
+-- the node after opening: it has what the notes restore, no open claim, and no pieces
 abbrev pub opened_node : Division → List ℕ → ℕ → List (Note Value) → NodeState
 opened_node division weights me notes =
     record {
@@ -56,7 +56,7 @@ opened_node division weights me notes =
       stopped = false;
     }
 
--- the notes with one more, if there is one
+-- the notes with this one added, if there is one
 abbrev pub with_note : List (Note Value) → Option (Note Value) → List (Note Value)
 with_note notes None = notes
 with_note notes (Some n) = notes ++ n ∷ []

@@ -1,4 +1,4 @@
-//! What a node refuses a call with.
+//! Why a node refuses a call.
 ghost use Rattle.std.specs.Prelude.{◌≡◌, None};
 ghost use Rattle.node.specs.Refusals.{cause_of, number_of};
 ghost use Rattle.node.specs.declared.fault.NodeFault.TheVariants.{Memory as out_of_memory};
@@ -9,19 +9,19 @@ use stable_record::LogFault;
 use thiserror::Error;
 use wire::WireFault;
 
-/// Why bytes mean nothing to a node.
+/// Why received bytes mean nothing to a node.
 #[derive(Clone, Copy, Debug, PartialEq, Eq, Error)]
 pub enum Foreign {
-    /// They spell no datagram, or the pieces of a message make none.
+    /// They don't encode a datagram, or the pieces of a message don't join to one.
     #[error("{0}")]
     Bytes(WireFault),
-    /// The message is of another tree, of no member, or about no unit.
+    /// The message is of another tree, names a member that doesn't exist, or isn't about a unit.
     #[error("{0}")]
     Message(Refusal),
 }
 
-/// Why a node does not take a step, or is not opened. Of several reasons the first that is tested
-/// is the one.
+/// Why a node doesn't take a step, or isn't opened. If several reasons apply, the one that is
+/// tested first is returned.
 #[derive(Clone, Copy, Debug, PartialEq, Eq, Error)]
 pub enum NodeFault {
     #[error("out of memory")]
@@ -32,7 +32,7 @@ pub enum NodeFault {
     /// The log refuses the note, or the file.
     #[error("{0}")]
     Log(LogFault),
-    /// The device failed in an earlier step, and the node was not opened since.
+    /// The device failed in an earlier step, and the node has not been opened again.
     #[error("the node stopped")]
     Stopped,
     /// The datagram means nothing to this node.
@@ -69,8 +69,8 @@ impl Fault for NodeFault {
 }
 
 impl NodeFault {
-    /// The number of the refusal that led to it: of files that make no build, or of what makes a
-    /// datagram foreign.
+    /// The number of the underlying refusal: why files don't make a build, or what makes a datagram
+    /// foreign.
     pub fn cause(&self) -> Option<u32>
         ensures { result ≡ cause_of self.now }
     {

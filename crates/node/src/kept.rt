@@ -1,4 +1,4 @@
-//! The pieces that a node keeps, by their headers.
+//! The pieces that a node keeps, by header.
 ghost use Rattle.std.specs.Prelude.{◌≡◌, ◌↔◌, ◌<◌, None, IfErr, IfOk, IsTrue, OnOk, true, vec_capacity, vec_len};
 ghost use Rattle.faults.specs.Answers.{IsRightUnless};
 ghost use Rattle.protocol.specs.State.{State};
@@ -17,7 +17,7 @@ use protocol::Refusal;
 use std::alloc::Global;
 use wire::{Carrier, Header, MOST_PIECES, PIECE_SIZE, Piece, WireFault};
 
-/// Why the member refuses what the header says, if it does.
+/// Why the member refuses the header, if it does.
 pub(crate) fn test_header(member: &Member<'_>, header: &Header) -> Result<(), Refusal>
     ensures ok { OnOk result (refusal_of member.now header.now ≡ None) }
     ensures err { IfErr result (λ e. refusal_of member.now header.now ≡ Some e) }
@@ -45,7 +45,7 @@ pub(crate) fn has_number(pieces: &[Piece], header: &Header, number: u16) -> bool
     pieces.iter().any(|piece| piece.number == number && header.is_same(&piece.header))
 }
 
-/// Whether all pieces of its message are kept once this one is.
+/// Whether this piece completes its message.
 #[tactic(auto, unfolding(wire::specs::Pieces::numbers_of))]
 pub(crate) fn is_last(pieces: &[Piece], piece: &Piece) -> bool
     ensures { result ≡ are_all piece.now.header (with_piece pieces.now piece.now) }
@@ -55,16 +55,17 @@ pub(crate) fn is_last(pieces: &[Piece], piece: &Piece) -> bool
         .all(|number| has_with(pieces, piece, number))
 }
 
-/// Whether the piece of this number, of the piece's message, is kept once the piece is.
+/// Whether the piece of this number is kept, or is this piece.
 fn has_with(pieces: &[Piece], piece: &Piece, number: u16) -> bool
     ensures { result ≡ has_number piece.now.header (with_piece pieces.now piece.now) number }
 {
     number == piece.number || has_number(pieces, &piece.header, number)
 }
 
-/// A build that is known, and may be the one that a message with this header carries. It is shared
-/// with what comes, which has its texts then. So a vote, which may have been read from the log with
-/// texts of its own, is given only where it stays; a build that is held stays in any case.
+/// A known build that may equal the one in a message with this header. The received build then
+/// shares its texts. A build that is held, or that the open claim proposes, is always given. A vote
+/// may have been read from the log, with texts of its own, so its build is only given if the vote
+/// stays.
 pub(crate) fn known_build<'m>(member: &'m Member<'_>, header: &Header) -> Option<&'m Build> {
     match member.known_build(&header.path) {
         Some(build) => Some(build),
@@ -72,8 +73,8 @@ pub(crate) fn known_build<'m>(member: &'m Member<'_>, header: &Header) -> Option
     }
 }
 
-/// The build of the member's last vote, if that vote stays where a message with this header carries
-/// the build: it is agreed, or proposed under the claim of the vote.
+/// The build of the member's last vote, if the message doesn't replace that vote: the build is
+/// agreed, or proposed under the claim of the vote.
 fn voted_build<'m>(member: &'m Member<'_>, header: &Header) -> Option<&'m Build> {
     let (claim, build) = member.voted(&header.path)?;
     match header.carrier {
@@ -83,8 +84,8 @@ fn voted_build<'m>(member: &'m Member<'_>, header: &Header) -> Option<&'m Build>
     }
 }
 
-/// The message that these pieces make with this one, which is not kept. A build that is known may
-/// be the one that it carries.
+/// The message that the kept pieces and this one join to. If its build equals the known one, it
+/// shares its texts.
 pub(crate) fn joined(
     pieces: &mut Vec<Piece>,
     piece: Piece,
@@ -106,7 +107,7 @@ pub(crate) fn joined(
     message
 }
 
-/// Room for one piece more.
+/// Reserves room for one more piece.
 pub(crate) fn make_room(pieces: &mut Vec<Piece>) -> Result<(), Memory>
     ensures same { pieces.new.items ≡ pieces.old.items }
     ensures room { OnOk result (vec_len pieces.new < vec_capacity pieces.new) }
@@ -115,7 +116,7 @@ pub(crate) fn make_room(pieces: &mut Vec<Piece>) -> Result<(), Memory>
     Ok(())
 }
 
-/// Makes the change. It takes no memory.
+/// Makes the change. Does not allocate.
 pub(crate) fn change_kept(pieces: &mut Vec<Piece>, change: Change)
     requires { vec_len pieces.old < vec_capacity pieces.old }
     ensures { pieces.new.items ≡ changed change pieces.old.items }
@@ -127,7 +128,7 @@ pub(crate) fn change_kept(pieces: &mut Vec<Piece>, change: Change)
     }
 }
 
-/// Drops the pieces with this header. It takes no memory.
+/// Drops the pieces with this header. Does not allocate.
 pub(crate) fn drop_pieces(pieces: &mut Vec<Piece>, header: &Header)
     ensures { pieces.new.items ≡ without header.now pieces.old.items }
 {

@@ -1,8 +1,8 @@
-//! What holds of a node's steps, and of all that nodes write down.
+//! What holds of a node's steps, and of all that nodes encode.
 ghost use Rattle.node.specs.Laws.{OnlyRunningNodesTake, StepsAreTheMembers};
 ghost use Rattle.node.specs.Ranges.{AnswersCanBeWritten, WhatIsRestoredCanBeWritten};
 
-/// What a member notes and says can be written down, and so can what such notes restore.
+/// What a member notes and sends can be encoded, and so can what such notes restore.
 pub fn what_is_said_can_be_written()
     ensures answers { AnswersCanBeWritten }
     ensures restored { WhatIsRestoredCanBeWritten }
@@ -13,7 +13,7 @@ pub fn only_running_nodes_take()
     ensures { OnlyRunningNodesTake }
 {}
 
-/// A step leaves the node's member as the member's own answer leaves it.
+/// A step leaves the node's member in the state that the member's own answer leads to.
 pub fn steps_are_the_members()
     ensures { StepsAreTheMembers }
 {}

@@ -1,4 +1,5 @@
-//! A member over its log: its note is on the disk before it gives out any bytes of its step.
+//! A member over its log. The note of a step is on the disk before any bytes of the step are given
+//! out.
 #![tactic(auto)]
 
 mod fault;
@@ -8,7 +9,7 @@ mod node;
 mod noted;
 mod opening;
 mod parcels;
-mod ready;
+mod prepared_step;
 mod step_end;
 mod stepping;
 mod written;
@@ -20,5 +21,6 @@ pub use crate::laws::{
 pub use crate::node::Node;
 pub use crate::noted::Noted;
 pub use crate::parcels::Parcels;
-pub use crate::ready::{Change, Out, Ready};
-pub use events::{Event, Left, Torn};
+pub use crate::prepared_step::{Change, Effects, PreparedStep};
+pub use member::MemberStep;
+pub use protocol::{Event, Left, Torn};

@@ -1,7 +1,7 @@
-//! A node, which contracts see as its member, its notes, its pieces, and the log that it stands on.
+//! A node. Contracts see its member, its notes, its pieces, and its log.
 ghost use Rattle.std.specs.Prelude.{◌≡◌, ◌<◌, Some, is_some, length, option_map, true, ℕ};
 ghost use Rattle.std.specs.Option.{option_copied};
-ghost use Rattle.agreement.specs.Votes.{report_of};
+ghost use Rattle.claims.specs.Votes.{report_of};
 ghost use Rattle.claims.specs.Claim.{IsClaim};
 ghost use Rattle.engine.specs.State as engines;
 ghost use Rattle.faults.specs.Answers.{IsRightUnless};
@@ -17,8 +17,7 @@ ghost use Rattle.node.specs.Noted.{notes_in};
 use crate::noted::Noted;
 use ballots::Weights;
 use claims::Claim;
-use engine::{Counts, Letter, Units};
-use listing::Tree;
+use engine::{Counts, Letter, Tree, Units};
 use member::{Member, OpenClaim};
 use package_record::{Build, Record};
 use pkgpath::PkgPath;
@@ -30,15 +29,15 @@ use wire::Piece;
 
 /// A member over its log.
 ///
-/// What it keeps of messages that have not come whole is bounded by the headers that the member
-/// lets through: they name its tree, a unit of it, and members. A header has at most 128 pieces of
-/// 32,768 bytes, and none of them is kept twice.
+/// The headers that the member accepts bound what it keeps of incomplete messages: they name its
+/// tree, a unit of it, and members. A header has at most 128 pieces of 32,768 bytes, and no piece
+/// is kept twice.
 #[derive(Drop)]
 pub struct Node<'a, D: Disk> {
     pub(crate) member: Member<'a>,
     pub(crate) log: Log<D>,
     pub(crate) noted: Noted,
-    /// Of messages that are not whole yet, in the order in which they came.
+    /// The pieces of incomplete messages, oldest first.
     pub(crate) pieces: Vec<Piece>,
     /// The device failed.
     pub(crate) stopped: bool,
@@ -83,14 +82,14 @@ impl<'a, D: Disk> Node<'a, D> {
         &self.member
     }
 
-    /// Whether its device failed, so that it takes no step until it is opened again.
+    /// Whether its device failed. It then takes no step until it is opened again.
     pub fn is_stopped(&self) -> bool
         ensures { result ≡ self.now.node.stopped }
     {
         self.stopped
     }
 
-    /// The tree that it is over.
+    /// The node's tree.
     pub fn tree(&self) -> &'a Tree
         ensures { result.now ≡ self.now.node.member.division.tree }
     {
@@ -104,7 +103,7 @@ impl<'a, D: Disk> Node<'a, D> {
         self.member.units()
     }
 
-    /// What each member weighs.
+    /// The weight of each member.
     pub fn weights(&self) -> &Weights
         ensures { result.now ≡ self.now.node.member.weights }
     {
@@ -118,7 +117,7 @@ impl<'a, D: Disk> Node<'a, D> {
         self.member.me()
     }
 
-    /// What its collections are kept by.
+    /// The allocator of the node's collections.
     pub fn allocator(&self) -> Global {
         *self.pieces.allocator()
     }
@@ -139,7 +138,7 @@ impl<'a, D: Disk> Node<'a, D> {
         self.member.letter(position)
     }
 
-    /// The least position at or behind this one with the letter Q, if a package has it.
+    /// The least position from this one on with the letter Q, if there is one.
     pub fn queued_from(&self, from: u32) -> Option<u32>
         ensures queued { engines.IsQueuedFrom (engine_of self.now.node.member) from result }
         ensures node { IsLogged self.now }
@@ -163,21 +162,22 @@ impl<'a, D: Disk> Node<'a, D> {
         self.member.open_claim()
     }
 
-    /// The greatest round that it opened for the unit that the path names, or 0.
+    /// The greatest round that the member opened for the unit that the path names, or 0.
     pub fn opened(&self, path: &PkgPath) -> u64
         ensures { result ≡ (facts_named self.now.node.member path.now).opened }
     {
         self.member.opened(path)
     }
 
-    /// The greatest claim that it promised, or voted under, for the unit that the path names.
+    /// The greatest claim that the member promised, or voted under, for the unit that the path
+    /// names.
     pub fn promised(&self, path: &PkgPath) -> Option<Claim>
         ensures { result ≡ (facts_named self.now.node.member path.now).promised }
     {
         self.member.promised(path)
     }
 
-    /// Its last vote for the unit that the path names: the claim, and what it voted for.
+    /// The member's last vote for the unit that the path names: the claim, and the build.
     pub fn voted(&self, path: &PkgPath) -> Option<&(Claim, Build)>
         ensures { report_of (option_copied result)
             ≡ (facts_named self.now.node.member path.now).voted }
@@ -185,8 +185,8 @@ impl<'a, D: Disk> Node<'a, D> {
         self.member.voted(path)
     }
 
-    /// The build of the unit that the path names, which this host makes of these files under the
-    /// claim, on what is held. No claim has to be open.
+    /// Makes the build of the unit that the path names, by this host under the claim, from these
+    /// files and on what is held. No claim has to be open.
     ///
     /// # Errors
     ///
@@ -208,7 +208,7 @@ impl<'a, D: Disk> Node<'a, D> {
         self.member.build(path, host, claim, packages)
     }
 
-    /// The length of its log's file in bytes.
+    /// The length of the log's file in bytes.
     pub fn log_len(&self) -> u64
         ensures len { result ≡ file_len self.now.log }
         ensures file { IsOnLog D.history self.now
@@ -218,14 +218,14 @@ impl<'a, D: Disk> Node<'a, D> {
         self.log.len()
     }
 
-    /// The disk that the node stands on, lent.
+    /// The node's disk, borrowed.
     pub fn disk(&self) -> &D
         ensures { result.now ≡ self.now.log.disk }
     {
         self.log.disk()
     }
 
-    /// The disk that the node stands on, as it is, and the texts of the notes on it.
+    /// Ends the node, and returns its disk unchanged, and the texts of its notes.
     pub fn into_parts(self) -> (D, Noted)
         ensures disk { result.0 ≡ self.entry.log.disk }
         ensures notes { notes_in result.1.texts ≡ self.entry.node.notes }
@@ -240,7 +240,7 @@ impl<'a, D: Disk> Node<'a, D> {
         (log.into_disk(), noted)
     }
 
-    /// The disk that the node stands on, as it is.
+    /// Ends the node, and returns its disk unchanged.
     pub fn into_disk(self) -> D
         ensures { result ≡ self.entry.log.disk }
     {

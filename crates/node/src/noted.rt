@@ -1,11 +1,10 @@
-//! The notes of a log, which only clauses read.
+//! The notes of a log, which only contracts read.
 ghost use Rattle.std.specs.Prelude.{◌≡◌, ◌++◌, ◌∷◌, [], ℕ, List};
 ghost use Rattle.std.specs.Borrow.{ftrue};
 
 use std::marker::{Model, PhantomData};
 
-/// The texts of the notes that a node's log has, in the order in which they were written. It takes
-/// no memory.
+/// The texts of the notes on a node's log, oldest first. A ghost value: it takes no memory.
 #[derive(Drop)]
 pub struct Noted {
     marker: PhantomData<u8>,
@@ -26,7 +25,7 @@ impl Noted {
         }
     }
 
-    /// One note more, with this text.
+    /// Adds a note with this text.
     pub(crate) fn note(&mut self, _text: &[u8])
         ensures { self.new.texts ≡ self.old.texts ++ _text.now ∷ [] }
     {}

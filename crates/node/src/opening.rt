@@ -1,4 +1,4 @@
-//! A node of what a file holds.
+//! Opens a node on a file.
 ghost use Rattle.std.specs.Prelude.{◌≡◌, ◌≢◌, ◌<◌, ◌≤◌, IfErr, IfOk, MatchResult, Ok, OnOk, false, is_some, length, map};
 ghost use Rattle.ballots.specs.Weights.{AreWeights};
 ghost use Rattle.protocol.specs.Answers.{tree_digest};
@@ -16,22 +16,21 @@ use crate::noted::Noted;
 use crate::{Node, NodeFault};
 use arrayvec::ArrayVec;
 use ballots::{Note, Weights};
-use engine::Units;
-use listing::Tree;
+use engine::{Tree, Units};
 use member::Member;
 use stable_record::{Disk, Identity, Log, LogFault};
 use std::alloc::Global;
 use wire::{WireFault, decode_note};
 
 impl<'a, D: Disk> Node<'a, D> {
-    /// The node that the file's notes restore; of a file that has none it is one that knows
-    /// nothing. It has no open claim, and no pieces. `weights` has one for each member, and `me` is
-    /// the number of one.
+    /// Opens a node in the state that the file's notes restore. Without notes it knows nothing yet.
+    /// It has no open claim, and no pieces. `weights` has one weight for each member, and `me` is
+    /// the number of this one.
     ///
     /// # Errors
     ///
-    /// `Memory`; and those of `Log::open`, of which `NotALog` comes also where a note of the file
-    /// is none, or is of no unit. The disk comes back.
+    /// `Memory`, and those of `Log::open`. `NotALog` also if a note of the file is malformed, or
+    /// isn't about a unit. The disk is returned with the error.
     pub fn open(
         alloc: Global,
         disk: D,
@@ -40,24 +39,24 @@ impl<'a, D: Disk> Node<'a, D> {
         me: u8,
     ) -> Result<Node<'a, D>, (NodeFault, D)>
         requires { me < length weights.now }
-        // It is the node that the file's notes restore.
+        // The node is in the state that the file's notes restore.
         ensures node { IfOk result (λ n. IsOpened tree.entry.now weights.now me n.node) }
         ensures notes { IfOk result (λ n. D.is_kept n.log.disk
             → Opens (identity_of n.node.member) (seen (D.history disk))
             (Ok (texts_of n.node.notes))) }
         ensures on_log { IfOk result (λ n. D.is_kept n.log.disk → IsOnLog D.history n) }
 
-        // A file of bytes has one answer, so these notes are all that it opens as.
+        // The bytes of a file determine its notes, so it can't open as others.
         ensures one_answer { OnOk result (HasOneAnswer (identity tree.entry.now weights.now me)) }
 
-        // Nor is there a second one for a node: a file that is no log, or another's, opens as no
-        // node, and is refused in one way.
+        // A file opens in one way only: one that is not a log, or is another member's, doesn't open
+        // as a node, and has one refusal.
         ensures one_node { MatchResult result
             (λ _. OpensAsOne tree.entry.now weights.now me)
             (λ e. e.0 ≢ NodeFault.Memory → OpensAsOne tree.entry.now weights.now me) }
 
-        // A crash at any moment leaves notes that a crash at the start could leave, whatever the
-        // call answers.
+        // Whatever the call returns, a crash at any moment leaves notes that a crash at the start
+        // could leave.
         ensures any_moment { IfOk result (λ n. D.is_kept n.log.disk
             → AllAlong (OpensAsLeft (identity_of n.node.member) (D.history disk))
             (D.history disk) (D.history n.log.disk)) }
@@ -65,7 +64,8 @@ impl<'a, D: Disk> Node<'a, D> {
             → AllAlong (OpensAsLeft (identity tree.entry.now weights.now me) (D.history disk))
             (D.history disk) (D.history e.1)) }
 
-        // Each refusal has its cause, and what is no log of this member stays as it is.
+        // Each refusal has its cause, and a file that is not a log of this member is left
+        // unchanged.
         ensures refused { IfErr result (λ e. D.is_kept e.1
             → IsOpenFault tree.entry.now weights.now me (seen (D.history disk)) e.0) }
         ensures untouched { IfErr result (λ e. D.is_kept e.1
@@ -73,7 +73,7 @@ impl<'a, D: Disk> Node<'a, D> {
         ensures device { IfErr result (λ e. e.0 ≡ NodeFault.Log LogFault.Device
             → HasRisen (D.failures_of disk) (D.failures_of e.1)) }
 
-        // What was said of the disk before still stands.
+        // What was stated of the disk before still holds.
         ensures kept { MatchResult result (λ n. D.is_kept n.log.disk → D.is_kept disk)
             (λ e. D.is_kept e.1 → D.is_kept disk) }
         ensures later { MatchResult result (λ n. D.failures_of disk ≤ D.failures_of n.log.disk)
@@ -82,7 +82,7 @@ impl<'a, D: Disk> Node<'a, D> {
         Node::open_with_digest(alloc, disk, tree, &tree.digest(), weights, me)
     }
 
-    /// The same, of a tree whose digest is known.
+    /// As `open`, for a tree whose digest is known.
     ///
     /// # Errors
     ///
@@ -97,24 +97,24 @@ impl<'a, D: Disk> Node<'a, D> {
     ) -> Result<Node<'a, D>, (NodeFault, D)>
         requires member { me < length weights.now }
         requires digest { digest.now ≡ tree_digest tree.now }
-        // It is the node that the file's notes restore.
+        // The node is in the state that the file's notes restore.
         ensures node { IfOk result (λ n. IsOpened tree.entry.now weights.now me n.node) }
         ensures notes { IfOk result (λ n. D.is_kept n.log.disk
             → Opens (identity_of n.node.member) (seen (D.history disk))
             (Ok (texts_of n.node.notes))) }
         ensures on_log { IfOk result (λ n. D.is_kept n.log.disk → IsOnLog D.history n) }
 
-        // A file of bytes has one answer, so these notes are all that it opens as.
+        // The bytes of a file determine its notes, so it can't open as others.
         ensures one_answer { OnOk result (HasOneAnswer (identity tree.entry.now weights.now me)) }
 
-        // Nor is there a second one for a node: a file that is no log, or another's, opens as no
-        // node, and is refused in one way.
+        // A file opens in one way only: one that is not a log, or is another member's, doesn't open
+        // as a node, and has one refusal.
         ensures one_node { MatchResult result
             (λ _. OpensAsOne tree.entry.now weights.now me)
             (λ e. e.0 ≢ NodeFault.Memory → OpensAsOne tree.entry.now weights.now me) }
 
-        // A crash at any moment leaves notes that a crash at the start could leave, whatever the
-        // call answers.
+        // Whatever the call returns, a crash at any moment leaves notes that a crash at the start
+        // could leave.
         ensures any_moment { IfOk result (λ n. D.is_kept n.log.disk
             → AllAlong (OpensAsLeft (identity_of n.node.member) (D.history disk))
             (D.history disk) (D.history n.log.disk)) }
@@ -122,7 +122,8 @@ impl<'a, D: Disk> Node<'a, D> {
             → AllAlong (OpensAsLeft (identity tree.entry.now weights.now me) (D.history disk))
             (D.history disk) (D.history e.1)) }
 
-        // Each refusal has its cause, and what is no log of this member stays as it is.
+        // Each refusal has its cause, and a file that is not a log of this member is left
+        // unchanged.
         ensures refused { IfErr result (λ e. D.is_kept e.1
             → IsOpenFault tree.entry.now weights.now me (seen (D.history disk)) e.0) }
         ensures untouched { IfErr result (λ e. D.is_kept e.1
@@ -130,7 +131,7 @@ impl<'a, D: Disk> Node<'a, D> {
         ensures device { IfErr result (λ e. e.0 ≡ NodeFault.Log LogFault.Device
             → HasRisen (D.failures_of disk) (D.failures_of e.1)) }
 
-        // What was said of the disk before still stands.
+        // What was stated of the disk before still holds.
         ensures kept { MatchResult result (λ n. D.is_kept n.log.disk → D.is_kept disk)
             (λ e. D.is_kept e.1 → D.is_kept disk) }
         ensures later { MatchResult result (λ n. D.failures_of disk ≤ D.failures_of n.log.disk)
@@ -150,7 +151,7 @@ impl<'a, D: Disk> Node<'a, D> {
     }
 }
 
-/// The node over a log whose notes have these texts. Its member knows nothing yet.
+/// The node over a log whose notes have these texts, for a member that knows nothing yet.
 fn over<'a, D: Disk>(
     alloc: Global,
     member: Member<'a>,
@@ -186,7 +187,7 @@ fn over<'a, D: Disk>(
     }
 }
 
-/// Whose log it is: that of this member.
+/// The identity of this member's log.
 fn owner(member: &Member<'_>) -> Identity
     ensures identity { result ≡ identity_of member.now }
     ensures weights { AreWeights member.now.weights }
@@ -202,7 +203,7 @@ fn owner(member: &Member<'_>) -> Identity
     }
 }
 
-/// What a node answers where its log answers this.
+/// The node's refusal if the log refuses with this fault.
 pub(crate) fn told(fault: LogFault) -> NodeFault
     ensures { result ≡ told_by fault }
 {
@@ -212,7 +213,7 @@ pub(crate) fn told(fault: LogFault) -> NodeFault
     }
 }
 
-/// The notes with these texts, each of a unit.
+/// The notes with these texts, each about a unit.
 fn all_notes(
     alloc: Global,
     units: &Units<'_>,
@@ -231,7 +232,7 @@ fn all_notes(
     Ok((notes, noted))
 }
 
-/// The note with this text, of a unit.
+/// The note with this text, about a unit.
 fn note(alloc: Global, units: &Units<'_>, text: &[u8]) -> Result<Note, NodeFault>
     ensures { IsReadBy units.now text.now result }
 {
@@ -246,7 +247,7 @@ fn note(alloc: Global, units: &Units<'_>, text: &[u8]) -> Result<Note, NodeFault
     }
 }
 
-/// What a node answers where a text of its log is no note's.
+/// The node's refusal if a text of its log is not that of a note.
 fn unread(fault: WireFault) -> NodeFault
     ensures { result ≡ unread_by fault }
 {
@@ -256,7 +257,7 @@ fn unread(fault: WireFault) -> NodeFault
     }
 }
 
-/// Whether the note is of a unit, by its name.
+/// Whether the note names a unit.
 fn is_unit(units: &Units<'_>, note: &Note) -> bool
     ensures { result ≡ is_some (number_named units.now note.now.path) }
 {

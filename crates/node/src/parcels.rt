@@ -5,9 +5,9 @@ ghost use Rattle.node.specs.Parcels.{parcels_to, texts_in};
 use std::alloc::Global;
 use std::marker::Model;
 
-/// Datagrams that go to the same members, each of which gets all of them. The bytes of a datagram
-/// stand once, however many members get it. Contracts see the list of the receivers with bytes: in
-/// order of receiver, and for each in order of the datagrams.
+/// Datagrams that all go to the same members. Their bytes are stored once, however many receivers
+/// there are. Contracts see a list of receivers with bytes, in order of receiver, and for each
+/// receiver in order of the datagrams.
 #[derive(Drop)]
 pub struct Parcels {
     texts: Vec<Vec<u8>>,
@@ -24,7 +24,7 @@ impl Model for Parcels {
 }
 
 impl Parcels {
-    /// Nothing goes out.
+    /// No datagrams.
     pub fn nothing(alloc: Global) -> Parcels
         ensures { result ≡ [] }
     {
@@ -34,22 +34,21 @@ impl Parcels {
         }
     }
 
-    /// These datagrams go to these members.
+    /// Sends each of these datagrams to each of these members.
     pub fn new(texts: Vec<Vec<u8>>, receivers: Vec<u8>) -> Parcels
         ensures { result ≡ parcels_to receivers.items (texts_in texts.items) }
     {
         Parcels { texts, receivers }
     }
 
-    /// The members that get the datagrams, in order of number, and the datagrams, each of which
-    /// goes to each of these.
+    /// The receivers in ascending order, and the datagrams. Each receiver gets all of them.
     pub fn parts(&self) -> (&[u8], &[Vec<u8>])
         ensures { self.now ≡ parcels_to result.0.now (texts_in result.1.now) }
     {
         (self.receivers.as_slice(), self.texts.as_slice())
     }
 
-    /// The receiver and the bytes at this place, counted from 0. None, where so many are not sent.
+    /// The receiver and the bytes at this place, counted from 0, if there are that many.
     pub fn get(&self, place: usize) -> Option<(u8, &[u8])>
         ensures { option_map (λ p. (p.0, p.1.now)) result ≡ slice_get self.now place }
     {

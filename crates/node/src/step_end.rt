@@ -1,4 +1,4 @@
-//! The end of a node's step: its note goes to the log, and then the step is taken.
+//! The end of a node's step: its note is written to the log, and then the step is taken.
 ghost use Rattle.std.specs.Prelude.{◌≡◌, ◌+◌, ◌≤◌, ◌<◌, ◌⊎◌, IfErr, IfOk, IsErrOf, List, OnErr, OnOk, ℕ, false, true, vec_capacity, vec_len};
 ghost use Rattle.std.specs.Option.{ForSome, option_copied};
 ghost use Rattle.member.specs.Prepared.{MayBeTaken};
@@ -13,40 +13,40 @@ ghost use Rattle.node.specs.inside.Stepping.{GoesOnWith, HasRoomForText, IsNoteC
 use crate::kept::{change_kept, make_room};
 use crate::noted::Noted;
 use crate::opening::told;
-use crate::{Node, NodeFault, Out, Ready};
+use crate::{Effects, Node, NodeFault, PreparedStep};
 use claims::Job;
-use member::{Member, Step};
+use member::{Member, MemberStep};
 use protocol::Outcome;
 use stable_record::{Disk, Log, LogFault};
 use wire::Piece;
 
 impl<'a, D: Disk> Node<'a, D> {
-    /// Takes a step that was made ready from the present facts. First its note goes to the log;
-    /// once that is on the disk, its datagrams and its job come out. After `Device` nothing has
-    /// come out, and the node is `Stopped` until it is opened again; after every other refusal
+    /// Takes a step that was made ready in the present state. First its note is written to the log.
+    /// Once that is on the disk, its datagrams and its job are returned. After `Device` nothing is
+    /// given out, and the node is `Stopped` until it is opened again. After any other refusal
     /// nothing has changed.
     ///
     /// # Errors
     ///
     /// `Memory`, and those of `Log::append`.
-    pub fn finish(&mut self, ready: Ready) -> Result<Out, NodeFault>
+    pub fn finish(&mut self, ready: PreparedStep) -> Result<Effects, NodeFault>
         requires present { IsReadyFor self.old.node ready }
         ensures taken { IfOk result
             (HasTaken self.old.node self.new.node (taken_by self.old.node ready)) }
         ensures on_log { D.is_kept self.new.log.disk → IsOnLog D.history self.old
             → OnOk result (IsOnLog D.history self.new) }
 
-        // A crash at any moment of the call, and after it, leaves the notes from before it, with
-        // the step's note or without.
+        // A crash at any moment of the call, and after it, leaves the previous notes, either with
+        // or without the step's note.
         ensures any_moment { D.is_kept self.new.log.disk → IsOnLog D.history self.old
             → LeavesOneMoreAtMost self.old.node (note_in ready.step)
             (D.history self.old.log.disk) (D.history self.new.log.disk) }
 
-        // What was said of the disk before still stands, so that calls can follow one another.
+        // What was stated of the disk before still holds, so that calls can follow one another.
         ensures kept { D.is_kept self.new.log.disk → D.is_kept self.old.log.disk }
         ensures later { D.failures_of self.old.log.disk ≤ D.failures_of self.new.log.disk }
 
-        // Each refusal has its cause, and says what it leaves of the node, and of the log.
+        // Each refusal has its cause. The clauses say how it leaves the node and the log.
         ensures causes { IfErr result (IsLogCause self.old.log (note_in ready.step)) }
         ensures within { OnOk result (¬ (LacksRoom self.old.log (note_in ready.step))) }
         ensures full { LacksRoom self.old.log (note_in ready.step)
@@ -77,8 +77,8 @@ impl<'a, D: Disk> Node<'a, D> {
     }
 }
 
-/// Writes the note of a step to the log of a node that is not stopped, if there is a note. Where
-/// the device fails, the node stops.
+/// Writes the step's note, if there is one, to the log of a node that is not stopped. If the device
+/// fails, the node stops.
 fn write_note<D: Disk>(
     log: &mut Log<D>,
     noted: &mut Noted,
@@ -129,7 +129,7 @@ fn write_note<D: Disk>(
     }
 }
 
-/// Adds the note to the log, if there is one. At `Ok` it is on the disk.
+/// Appends the note to the log, if there is one. After `Ok` it is on the disk.
 fn write<D: Disk>(log: &mut Log<D>, noted: &mut Noted, note: Option<&[u8]>) -> Result<(), LogFault>
     ensures noted { OnOk result
         (noted.new.texts ≡ with_text noted.old.texts (option_copied note.entry)) }
@@ -173,8 +173,8 @@ fn write<D: Disk>(log: &mut Log<D>, noted: &mut Noted, note: Option<&[u8]>) -> R
     Ok(())
 }
 
-/// Takes a step whose note is on the disk. It takes no memory.
-fn take(member: &mut Member<'_>, pieces: &mut Vec<Piece>, ready: Ready) -> Out
+/// Takes a step whose note is on the disk. Does not allocate.
+fn take(member: &mut Member<'_>, pieces: &mut Vec<Piece>, ready: PreparedStep) -> Effects
     requires room { vec_len pieces.old < vec_capacity pieces.old }
     requires step { ForSome ready.step (MayBeTaken member.old) }
     ensures member { member.new ≡ committed member.old ready.step }
@@ -185,11 +185,11 @@ fn take(member: &mut Member<'_>, pieces: &mut Vec<Piece>, ready: Ready) -> Out
     let (step, sends, change) = ready.apart();
     change_kept(pieces, change);
     let job = commit(member, step);
-    Out { sends, job }
+    Effects { sends, job }
 }
 
-/// Takes the member's part of a step, if it has one. It takes no memory.
-fn commit(member: &mut Member<'_>, step: Option<Step>) -> Option<Job>
+/// Takes the member's part of a step, if it has one. Does not allocate.
+fn commit(member: &mut Member<'_>, step: Option<MemberStep>) -> Option<Job>
     requires { ForSome step (MayBeTaken member.old) }
     ensures member { member.new ≡ committed member.old step }
     ensures job { result ≡ (answer_then member.old step).job }
@@ -205,7 +205,7 @@ fn commit(member: &mut Member<'_>, step: Option<Step>) -> Option<Job>
     }
 }
 
-/// Whether the fault is one of the device, which stops a node.
+/// Whether it is a fault of the device, which stops a node.
 fn is_device(fault: LogFault) -> bool
     ensures { result ≡ is_device fault }
 {

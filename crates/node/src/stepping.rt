@@ -16,7 +16,7 @@ ghost use Rattle.node.specs.Step.{Comes, Does, IsReadyFor, changed, heard, taken
 ghost use Rattle.node.specs.inside.Stepping.{AreKept, ComesAs, IsPrepared, MakesReady, dropped_by, foreign_by, refused_by, strange_by};
 
 use crate::kept::{drop_pieces, has_number, is_last, joined, known_build, test_header};
-use crate::{Change, Foreign, Node, NodeFault, Out, Ready};
+use crate::{Change, Effects, Foreign, Node, NodeFault, PreparedStep};
 use ballots::Message;
 use member::Input;
 use protocol::Refusal;
@@ -24,12 +24,12 @@ use stable_record::{Disk, LogFault};
 use wire::{Datagram, Header, Piece, WireFault, decode};
 
 impl<'a, D: Disk> Node<'a, D> {
-    /// Makes the step on an input ready: all that it needs is grown, and nothing has changed.
+    /// Makes the step on an input ready: allocates all that it needs, and changes nothing.
     ///
     /// # Errors
     ///
     /// `Stopped`; else `Memory`, or the member's refusal.
-    pub fn prepare(&mut self, input: Input) -> Result<Ready, NodeFault>
+    pub fn prepare(&mut self, input: Input) -> Result<PreparedStep, NodeFault>
         requires message { IsGoodInput input }
         ensures step { HasPrepared self.old.node self.new.node (Does input)
             (map_ok (taken_by self.old.node) result) }
@@ -47,13 +47,13 @@ impl<'a, D: Disk> Node<'a, D> {
         }
     }
 
-    /// Makes the step on bytes that came ready. Nothing has changed, except that pieces which join
-    /// to no message are dropped.
+    /// Makes the step on received bytes ready. Changes nothing, except that pieces which don't join
+    /// to a message are dropped.
     ///
     /// # Errors
     ///
-    /// `Stopped`; else `Memory`, or what makes the bytes `Foreign`.
-    pub fn prepare_datagram(&mut self, bytes: &[u8]) -> Result<Ready, NodeFault>
+    /// `Stopped`; else `Memory`, or `Foreign` with the reason.
+    pub fn prepare_datagram(&mut self, bytes: &[u8]) -> Result<PreparedStep, NodeFault>
         ensures step { HasPrepared self.old.node self.new.node (Comes bytes.now)
             (map_ok (taken_by self.old.node) result) }
         ensures ready { IfOk result (IsReadyFor self.new.node) }
@@ -72,8 +72,8 @@ impl<'a, D: Disk> Node<'a, D> {
         }
     }
 
-    /// Makes the step on an input ready, which changes the pieces so.
-    fn prepare_input(&mut self, input: Input, change: Change) -> Result<Ready, Refusal>
+    /// Makes the step on an input ready, with this change of the pieces.
+    fn prepare_input(&mut self, input: Input, change: Change) -> Result<PreparedStep, Refusal>
         requires message { IsGoodInput input }
         requires pieces { AreKept self.old.node.member (changed change self.old.node.pieces) }
         ensures step { IsPrepared self.old.node input change result }
@@ -87,11 +87,15 @@ impl<'a, D: Disk> Node<'a, D> {
                 return Err(refusal);
             }
         };
-        Ok(Ready::of(alloc, step, change)?)
+        Ok(PreparedStep::of(alloc, step, change)?)
     }
 
-    /// Makes the step on a message that came ready, which changes the pieces so.
-    fn prepare_message(&mut self, message: Message, change: Change) -> Result<Ready, NodeFault>
+    /// Makes the step on a received message ready, with this change of the pieces.
+    fn prepare_message(
+        &mut self,
+        message: Message,
+        change: Change,
+    ) -> Result<PreparedStep, NodeFault>
         requires message { IsGoodBody message.path message.body }
         requires pieces { AreKept self.old.node.member (changed change self.old.node.pieces) }
         ensures step { MakesReady self.old.node
@@ -105,8 +109,8 @@ impl<'a, D: Disk> Node<'a, D> {
         }
     }
 
-    /// Makes the step on a piece that came ready. Its header is tested first.
-    fn prepare_piece(&mut self, piece: Piece) -> Result<Ready, NodeFault>
+    /// Makes the step on a received piece ready. Its header is tested first.
+    fn prepare_piece(&mut self, piece: Piece) -> Result<PreparedStep, NodeFault>
         requires { IsPiece piece }
         ensures step { ComesAs self.old.node self.new.node
             (arrival_of_piece self.old.node.pieces piece
@@ -118,16 +122,16 @@ impl<'a, D: Disk> Node<'a, D> {
             return Err(foreign(refusal));
         }
         if has_number(self.pieces.as_slice(), &piece.header, piece.number) {
-            Ok(Ready::waiting(self.allocator(), Change::Stays))
+            Ok(PreparedStep::waiting(self.allocator(), Change::Stays))
         } else if is_last(self.pieces.as_slice(), &piece) {
             self.prepare_joined(piece)
         } else {
-            Ok(Ready::waiting(self.allocator(), Change::Keeps(piece)))
+            Ok(PreparedStep::waiting(self.allocator(), Change::Keeps(piece)))
         }
     }
 
-    /// Makes the step on the message ready whose last missing piece came.
-    fn prepare_joined(&mut self, piece: Piece) -> Result<Ready, NodeFault>
+    /// Makes the step on a message ready whose last missing piece was received.
+    fn prepare_joined(&mut self, piece: Piece) -> Result<PreparedStep, NodeFault>
         requires { IsPiece piece }
         ensures step { ComesAs self.old.node self.new.node
             (arrival_of_all (without piece.header self.old.node.pieces)
@@ -143,8 +147,8 @@ impl<'a, D: Disk> Node<'a, D> {
         }
     }
 
-    /// What is answered where the pieces of a message make none. They are dropped, unless it was
-    /// memory that was wanting.
+    /// The refusal if the pieces of a message don't join to one. They are dropped, unless memory
+    /// ran out.
     fn drop_strange(&mut self, header: &Header, fault: WireFault) -> NodeFault
         ensures fault { result ≡ strange_by fault }
         ensures node { self.new.node ≡ dropped_by self.old.node header.now fault }
@@ -163,25 +167,25 @@ impl<'a, D: Disk> Node<'a, D> {
     ///
     /// # Errors
     ///
-    /// Those of the two.
-    pub fn handle(&mut self, input: Input) -> Result<Out, NodeFault>
+    /// Those of both.
+    pub fn handle(&mut self, input: Input) -> Result<Effects, NodeFault>
         requires message { IsGoodInput input }
         ensures taken { IfOk result (HasHandled self.old.node self.new.node (Does input)) }
         ensures on_log { D.is_kept self.new.log.disk → IsOnLog D.history self.old
             → OnOk result (IsOnLog D.history self.new) }
 
-        // A crash at any moment of the call, and after it, leaves the notes from before it, with
-        // the step's note or without.
+        // A crash at any moment of the call, and after it, leaves the previous notes, either with
+        // or without the step's note.
         ensures any_moment { D.is_kept self.new.log.disk → IsOnLog D.history self.old
             → LeavesItsNoteAtMost self.old.node (Does input) (D.history self.old.log.disk)
             (D.history self.new.log.disk) }
 
-        // What was said of the disk before still stands, so that calls can follow one another.
+        // What was stated of the disk before still holds, so that calls can follow one another.
         ensures kept { D.is_kept self.new.log.disk → D.is_kept self.old.log.disk }
         ensures later { D.failures_of self.old.log.disk ≤ D.failures_of self.new.log.disk }
 
-        // Each refusal has its cause, and says what it leaves of the node, and of the log: all,
-        // unless the device failed.
+        // Each refusal has its cause. Unless the device failed, it leaves the node and the log
+        // unchanged.
         ensures causes { IfErr result (IsCause self.old (Does input)) }
         ensures full { HasFilled self.old (Does input)
             → IsErrOf result NodeFault.Memory ⊎ IsErrOf result (NodeFault.Log LogFault.Full) }
@@ -199,28 +203,28 @@ impl<'a, D: Disk> Node<'a, D> {
         self.finish(ready)
     }
 
-    /// Takes the step on bytes that came: `prepare_datagram`, and then `finish`.
+    /// Takes the step on received bytes: `prepare_datagram`, and then `finish`.
     ///
     /// # Errors
     ///
-    /// Those of the two.
-    pub fn handle_datagram(&mut self, bytes: &[u8]) -> Result<Out, NodeFault>
+    /// Those of both.
+    pub fn handle_datagram(&mut self, bytes: &[u8]) -> Result<Effects, NodeFault>
         ensures taken { IfOk result (HasHandled self.old.node self.new.node (Comes bytes.now)) }
         ensures on_log { D.is_kept self.new.log.disk → IsOnLog D.history self.old
             → OnOk result (IsOnLog D.history self.new) }
 
-        // A crash at any moment of the call, and after it, leaves the notes from before it, with
-        // the step's note or without.
+        // A crash at any moment of the call, and after it, leaves the previous notes, either with
+        // or without the step's note.
         ensures any_moment { D.is_kept self.new.log.disk → IsOnLog D.history self.old
             → LeavesItsNoteAtMost self.old.node (Comes bytes.now) (D.history self.old.log.disk)
             (D.history self.new.log.disk) }
 
-        // What was said of the disk before still stands, so that calls can follow one another.
+        // What was stated of the disk before still holds, so that calls can follow one another.
         ensures kept { D.is_kept self.new.log.disk → D.is_kept self.old.log.disk }
         ensures later { D.failures_of self.old.log.disk ≤ D.failures_of self.new.log.disk }
 
-        // Each refusal has its cause, and says what it leaves of the node, and of the log: all,
-        // unless the device failed.
+        // Each refusal has its cause. Unless the device failed, it leaves the node and the log
+        // unchanged, except that pieces which don't join to a message are dropped.
         ensures causes { IfErr result (IsCause self.old (Comes bytes.now)) }
         ensures full { HasFilled self.old (Comes bytes.now)
             → IsErrOf result NodeFault.Memory ⊎ IsErrOf result (NodeFault.Log LogFault.Full) }
@@ -240,7 +244,7 @@ impl<'a, D: Disk> Node<'a, D> {
     }
 }
 
-/// What is answered to an input that the member refuses.
+/// The refusal of an input that the member refuses.
 fn refused(refusal: Refusal) -> NodeFault
     ensures { result ≡ refused_by refusal }
 {
@@ -250,7 +254,7 @@ fn refused(refusal: Refusal) -> NodeFault
     }
 }
 
-/// What is answered to a message that the member refuses.
+/// The refusal of a message that the member refuses.
 fn foreign(refusal: Refusal) -> NodeFault
     ensures { result ≡ foreign_by refusal }
 {
@@ -260,7 +264,7 @@ fn foreign(refusal: Refusal) -> NodeFault
     }
 }
 
-/// What is answered to bytes, or pieces, that mean nothing.
+/// The refusal of bytes, or of pieces, that mean nothing.
 fn strange(fault: WireFault) -> NodeFault
     ensures { result ≡ strange_by fault }
 {

@@ -1,4 +1,4 @@
-//! What a step notes and sends, as bytes.
+//! The note and the messages of a step, as bytes.
 ghost use Rattle.std.specs.Prelude.{◌≡◌, All, IfOk, map, option_map};
 ghost use Rattle.std.specs.Option.{ForSome, option_copied};
 ghost use Rattle.node.specs.Parcels.{datagrams_of, datagrams_to, texts_in};
@@ -29,7 +29,7 @@ pub(crate) fn note_text(alloc: Global, note: Option<&Note>) -> Result<Option<Vec
     }
 }
 
-/// What is sent, as bytes, which stand once for all that get them.
+/// The messages as bytes, which are stored once for all their receivers.
 pub(crate) fn parcels(alloc: Global, sends: &Sends) -> Result<Parcels, Memory>
     requires { All (λ x. IsMessage x.message) sends.now }
     ensures { IfOk result (λ parcels. parcels ≡ datagrams_to sends.now) }
@@ -47,7 +47,7 @@ pub(crate) fn parcels(alloc: Global, sends: &Sends) -> Result<Parcels, Memory>
     }
 }
 
-/// The datagrams that the message goes out as.
+/// The datagrams of the message.
 fn datagrams(alloc: Global, message: &Message) -> Result<Vec<Vec<u8>>, Memory>
     requires { IsMessage message.now }
     ensures { IfOk result (λ texts. texts_in texts.items ≡ datagrams_of message.now) }
@@ -57,7 +57,7 @@ fn datagrams(alloc: Global, message: &Message) -> Result<Vec<Vec<u8>>, Memory>
     all_texts(alloc, datagrams.as_slice())
 }
 
-/// The texts of these, in their order.
+/// The texts of these datagrams, in their order.
 fn all_texts(alloc: Global, datagrams: &[Datagram]) -> Result<Vec<Vec<u8>>, Memory>
     requires { All IsDatagram datagrams.now }
     ensures { IfOk result (λ texts. texts_in texts.items

@@ -1,4 +1,4 @@
--- Texts that ascend.
+-- Ascending texts.
 use Rattle.std.proofs.Common.{◌≡◌, suc, ◌-◌, true, List, [], ◌∷◌, ◌++◌, length, Option, Some, Less, Equal, Greater, refl, sym, ap, ◌∙◌, arith}
 use Rattle.std.specs.Prelude.{slice_get, map, option_map}
 use Rattle.std.specs.Cmp.Lexicographic.{nat_list_cmp_total}
@@ -45,7 +45,7 @@ all_below (t ∷ s ∷ ts) u up above =
     let here = and_parts (is_lt (text_cmp s u)) (list_all (λ v. is_lt (text_cmp v u)) ts) behind in
     and_from _ _ (below_trans t s u next.0 here.0) behind
 
--- one more above the last
+-- with one added above the last, they ascend
 pub ascending_more : (ts : List Text) (u : Text) → is_ascending ts ≡ true → is_above (last_of ts) u ≡ true → is_ascending (ts ++ u ∷ []) ≡ true
 ascending_more ts u up above = push ts up (all_below ts u up above)
   where
@@ -56,7 +56,7 @@ ascending_more ts u up above = push ts up (all_below ts u up above)
         let low = and_parts (is_lt (text_cmp t u)) (list_all (λ v. is_lt (text_cmp v u)) ts) below in
         and_from _ _ (list_all-append (λ v. is_lt (text_cmp t v)) ts (u ∷ []) ∙ and_from _ _ parts.0 (and_from _ true low.0 refl)) (push ts parts.1 low.1)
 
--- what stands behind others in ascending order is above the last of them
+-- in ascending order, a text after others is above the last of them
 pub ascending_above : (ts : List Text) (u : Text) (us : List Text) → is_ascending (ts ++ u ∷ us) ≡ true → is_above (last_of ts) u ≡ true
 ascending_above [] u us up = refl
 ascending_above (t ∷ []) u us up =

@@ -1,4 +1,4 @@
--- Texts of builds, and what is read of them.
+-- Texts of builds, and their parsing.
 use Rattle.std.proofs.Common.{◌≡◌, ◌++◌, true, false, None, Some, refl, ap, ◌∙◌, arith, codes, length, List, [], ◌∷◌}
 use Rattle.std.proofs.lemmas.List.{length-append}
 use Rattle.std.specs.Fmt.{digits}
@@ -42,7 +42,7 @@ example_two_are_several : is_several (build_text (y ∷ y ∷ [])) ≡ true
 unfolding ended
 example_two_are_several = refl
 
--- what may stand behind a first record, and the line of the first thing that may not
+-- records that may follow a first one, and the first line of those that may not
 example_may_follow : next_fault (x ∷ []) y ≡ None
 example_may_follow = refl
 
@@ -71,7 +71,7 @@ example_length : length (record_text y) ≡ 73
 unfolding ended digits
 example_length = refl
 
--- what stands before the digest of the file, and the line behind it
+-- the text before the digest of the file, and the line after it
 abbrev front : Text
 front = codes "@dpb 1" ++ 10 ∷ codes "@name x-1" ++ 10 ∷ codes "@comment pkgpath=a/b,-x" ++ 10 ∷ codes "@host 3" ++ 10 ∷ codes "@claim 1.0" ++ 10 ∷ codes "x" ++ 10 ∷ codes "@sha "
 

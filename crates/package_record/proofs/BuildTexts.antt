@@ -8,11 +8,11 @@ use Rattle.package_record.specs.BuildReading.{is_several}
 use Rattle.package_record.specs.Content.{Content, ended, record_text}
 use Rattle.package_record.proofs.ReadFields.{where_false}
 
--- lines stand before two or more
+-- the lines before two or more records
 pub lines_of_several : (n : ℕ) → 2 ≤ n → lines_before n ≡ ended (several_lines n)
 lines_of_several n two = where_false (ltb n 2) [] (ended (several_lines n)) (le-ltb n 2 two)
 
--- a build's text is the lines before its records, and these
+-- a build's text is the lines before its records, followed by these
 pub text_parts : (cs : List Content) → build_text cs ≡ lines_before (length cs) ++ records_text cs
 text_parts [] = refl
 text_parts (c ∷ []) = sym (append-nil (record_text c))
@@ -21,13 +21,13 @@ text_parts (c ∷ d ∷ cs) = ap (λ (t : Text). t ++ records_text (c ∷ d ∷ 
 pub text_length : (cs : List Content) → length (build_text cs) ≡ length (lines_before (length cs)) + length (records_text cs)
 text_length cs = ap length (text_parts cs) ∙ length-append (lines_before (length cs)) (records_text cs)
 
--- each record's text is within the build's
+-- each record's text is part of the build's
 pub record_within : (cs : List Content) → (k : ℕ) (d : Content) → k < length cs → length (record_text (get_or cs k d)) ≤ length (records_text cs)
 record_within [] k d lt = absurd (omega arith)
 record_within (c ∷ cs) zero d lt = omega (arith, length-append (record_text c) (records_text cs))
 record_within (c ∷ cs) (suc k) d lt = omega (arith, length-append (record_text c) (records_text cs), record_within cs k d (omega arith))
 
--- the first line tells which text is of several
+-- the first line identifies the text of several
 pub several_begins : (n : ℕ) (rest : Text) → is_several (ended (several_lines n) ++ rest) ≡ true
 unfolding ended
 several_begins n rest = refl
@@ -46,7 +46,7 @@ pub records_push : (cs : List Content) (c : Content) → records_text (cs ++ c �
 records_push [] c = append-nil (record_text c)
 records_push (d ∷ cs) c = ap (λ (t : Text). record_text d ++ t) (records_push cs c) ∙ sym (append_assoc (record_text d) (records_text cs) (record_text c))
 
--- the text of one more record behind lines and records
+-- the text with one more record after lines and records
 pub text_next : (lines mid new : Text) (cs : List Content) (i : ℕ) (c : Content) → i < length cs → c ≡ get_or cs i c → mid ≡ lines ++ records_text (take i cs) → new ≡ mid ++ record_text c
     → new ≡ lines ++ records_text (take (i + 1) cs)
 text_next lines mid new cs i c lt here before e =

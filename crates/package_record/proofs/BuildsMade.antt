@@ -1,4 +1,4 @@
--- What is made of packages is a build.
+-- A build made of packages is valid.
 use Rattle.std.proofs.Common.{◌≡◌, ℕ, zero, suc, ◌+◌, ◌<◌, ◌≤◌, Bool, true, false, cond, List, [], ◌∷◌, ◌++◌, length, get_or, take, drop, map, Option, None, Some, Ok, Err, refl, sym, ap, ◌∙◌, arith, inl, inr}
 use Rattle.std.specs.List.{All, range_with_len}
 use Rattle.std.proofs.lemmas.Bool.{cases_lt, le-ltb, lt-ltb}
@@ -6,10 +6,10 @@ use Rattle.std.proofs.lemmas.List.{length-append, length-map, take-append-drop}
 use Rattle.std.proofs.lemmas.List.Elements.{All-cons, All-nil}
 use Rattle.faults.specs.Answers.{first_given, option_or, unless_fault}
 use Rattle.faults.specs.Bytes.{Text}
-use Rattle.agreement.specs.declared.claim.Claim.{Claim}
+use Rattle.claims.specs.declared.claim.Claim.{Claim}
 use Rattle.claims.specs.Deps.{is_ascending}
 use Rattle.claims.specs.declared.deps.Dep.{Dep}
-use Rattle.pkgpath.specs.PkgPath.{without_subpackage}
+use Rattle.claims.specs.PkgPath.{without_subpackage}
 use Rattle.package_record.specs.Build.{AreAlike, IsAlike, IsBuild, build_text, most_packages, paths_of, records_text}
 use Rattle.package_record.specs.Content.{AreFileNames, Content, IsRecord, is_next_name, most_bytes, names_of, record_text}
 use Rattle.package_record.specs.Laws.{CanBeMade}
@@ -51,7 +51,7 @@ none_in f (x ∷ xs) e = let parts = neither (f x) (first_given f xs) e in All-c
 
 -- ---- lengths
 
--- each record's text is within the limit where the build's is
+-- each record's text is within the limit if the build's is
 pub records_fit : (cs : List Content) → length (build_text cs) ≤ most_bytes → (k : ℕ) (c : Content) → k < length cs → length (record_text (get_or cs k c)) ≤ most_bytes
 records_fit cs fits k c lt = omega (arith, record_within cs k c lt, text_length cs, fits)
 
@@ -93,7 +93,8 @@ alike_made host claim built (p ∷ ps) some group = behind ps group
     behind (q ∷ qs) same =
         All-cons (IsAlike (content_from host claim built p)) (content_from host claim built q) (contents_of host claim built qs) (record { group = same 0 q (omega arith); host = refl; claim = refl; built = refl }) (behind qs (λ k x below. same (suc k) x (omega arith)))
 
--- what is made of these packages is a build, if its records are such and it is not too long
+-- what is made of these packages is a valid build, if their records can be made and it doesn't
+-- exceed the limit
 pub packages_make : (host : ℕ) (claim : Claim) (built : List Dep) (ps : List Package) → 1 ≤ length ps → length ps ≤ most_packages → is_ascending (map (λ (p : Package). p.path) ps) ≡ true → AreOfOneGroup ps
     → All IsRecord (contents_of host claim built ps) → too_large (length (build_text (contents_of host claim built ps))) ≡ None → IsBuild (contents_of host claim built ps)
 packages_make host claim built ps some few up group good none = record {
@@ -111,7 +112,7 @@ names_made host claim built (p ∷ ps) = ap (option_or (names_fault (names_of p.
 
 -- ---- one package after the other
 
--- the packages up to one of them, and what stands behind
+-- the packages up to one of them, and those after it
 pub packages_cut : (ps ys : List Package) (p : Package) → ys ≡ take (length ys) ps → length ys < length ps → p ≡ get_or ps (length ys) p → ps ≡ ys ++ p ∷ drop (length ys + 1) ps
 packages_cut ps ys p front lt here =
     sym (take-append-drop (length ys) ps) ∙ ap (λ (qs : List Package). qs ++ drop (length ys) ps) (sym front) ∙ ap (λ (qs : List Package). ys ++ qs) (drop_one ps (length ys) p lt here)
@@ -130,7 +131,7 @@ records_longer host claim built (y ∷ ys) p qs =
 pub over : (n : ℕ) → most_bytes < n → too_large n ≡ Some TooLarge
 over n long = rw (lt-ltb most_bytes n long) refl
 
--- a build is too large as soon as the records up to one of its packages are
+-- a build is too large if the records up to one of its packages are
 pub too_long : (host : ℕ) (claim : Claim) (built : List Dep) (ps ys : List Package) (p : Package) → ys ≡ take (length ys) ps → length ys < length ps → p ≡ get_or ps (length ys) p
     → most_bytes < length (records_text (contents_of host claim built ys)) + length (record_text (content_from host claim built p)) → too_large (length (build_text (contents_of host claim built ps))) ≡ Some TooLarge
 too_long host claim built ps ys p front lt here long =
@@ -140,7 +141,7 @@ too_long host claim built ps ys p front lt here long =
     let same : length (records_text cs) ≡ length (records_text (contents_of host claim built (ys ++ p ∷ drop (length ys + 1) ps))) = ap (λ (qs : List Package). length (records_text (contents_of host claim built qs))) cut in
     over (length (build_text cs)) (omega (arith, text_length cs, same, longer, long))
 
--- what a refusal for length says
+-- what a refusal for length implies
 pub refused_for_length : {X : Type 0} (n : ℕ) (x : X) (e : RecordFault) → unless_fault (too_large n) x ≡ Err e → (most_bytes < n) × (e ≡ TooLarge)
 refused_for_length n x e h = elim (cases_lt most_bytes n) [
   | inl long ↦ (long, same e (sym (ap (λ (o : Option RecordFault). unless_fault o x) (over n long)) ∙ h))

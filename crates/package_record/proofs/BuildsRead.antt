@@ -1,4 +1,4 @@
--- Builds that are spelled so are read.
+-- Texts of builds are parsed as these builds.
 use Rattle.std.proofs.Common.{◌≡◌, ℕ, suc, ◌+◌, ◌-◌, ◌<◌, ◌≤◌, true, false, ltb, List, [], ◌∷◌, ◌++◌, length, None, Ok, refl, sym, ap, ◌∙◌, append_assoc, arith, codes, decimal}
 use Rattle.std.specs.List.{All}
 use Rattle.std.proofs.lemmas.Bool.{and_from, le-ltb}
@@ -66,7 +66,7 @@ several_read c d cs rest good =
 
 -- ---- the whole
 
--- the text of a build is read as that build
+-- the text of a build is parsed as that build
 pub build_is_read : (cs : List Content) → IsBuild cs → whole_build_of (build_text cs) ≡ Ok cs
 unfolding whole_build_of whole_several_of
 build_is_read [] good = absurd good.alike
@@ -80,7 +80,7 @@ build_is_read (c ∷ d ∷ cs) good =
     ∙ where_false (ltb most_bytes (length text)) _ _ (le-ltb most_bytes (length text) good.fits)
     ∙ rw read
 
--- and so it is where more stands behind it
+-- also if more text follows
 pub build_front_is_read : (cs : List Content) (rest : Text) → IsBuild cs → first_build_of (build_text cs ++ rest) ≡ Ok (cs, rest)
 unfolding first_build_of
 build_front_is_read [] rest good = absurd good.alike
@@ -93,7 +93,7 @@ build_front_is_read (c ∷ d ∷ cs) rest good =
     ap is_several (append_assoc (ended (several_lines (length all))) (records_text all) rest) ∙ several_begins (length all) (records_text all ++ rest) in
     where_true (is_several (build_text all ++ rest)) _ _ begins ∙ several_read c d cs rest good
 
--- no text of a build begins that of another
+-- no text of a build is a proper prefix of another's
 pub no_build_text_begins : (bs cs : List Content) (rest : Text) → IsBuild bs → IsBuild cs → build_text cs ≡ build_text bs ++ rest → (bs ≡ cs) × (rest ≡ [])
 no_build_text_begins bs cs rest b_good c_good begins =
     let same : (bs, rest) ≡ (cs, []) =

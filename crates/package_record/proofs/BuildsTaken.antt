@@ -1,4 +1,4 @@
--- What is read as a build is spelled so.
+-- A text that is parsed as a build is that of the build.
 use Rattle.std.proofs.Common.{◌≡◌, ℕ, zero, suc, ◌-◌, ◌<◌, ◌≤◌, true, cond, ltb, List, [], ◌∷◌, ◌++◌, length, drop, Option, None, Some, Result, Ok, Err, refl, sym, ap, subst, ◌∙◌, append_assoc, arith, codes, decimal, inl, inr}
 use Rattle.std.specs.List.{All, join_with_byte}
 use Rattle.std.proofs.lemmas.Bool.{ltb-false}
@@ -34,7 +34,7 @@ begins_so text several = begun (codes "@dpb 2" ++ 10 ∷ []) text several
 tail_is : (a b : Text) (xs ys : List Text) → a ∷ xs ≡ b ∷ ys → xs ≡ ys
 tail_is a b xs ys e = cc
 
--- what stands behind the first line is the second, and what is left
+-- the text after the first line is the second line and the rest
 second_line : (behind text : Text) (p : Place) → pieces_at 10 behind ≡ text ∷ p.lines → 0 < length p.lines → behind ≡ text ++ 10 ∷ join_with_byte 10 p.lines
 second_line behind text p lines some = sym (join_with_byte-slice_split 10 behind) ∙ ap (join_with_byte 10) lines ∙ join_behind text p.lines some
 
@@ -84,7 +84,7 @@ next_taken n front text x e =
     subst (λ (y : Content × Text). IsRecord y.0 × (text ≡ record_text y.0 ++ y.1) × (n - length y.1 ≤ most_bytes) × (next_fault front y.0 ≡ None)) f.1
     (read.0, read.1, ltb-false _ _ t.0, f.0)
 
--- so many records behind others, one after the other
+-- this number of records after others
 record Records (n k : ℕ) (front : List Content) (text : Text) (x : List Content × Text) : Type 0 where
   more : List Content
   all : x.0 ≡ front ++ more
@@ -160,7 +160,7 @@ map_taken : {X Y : Type 0} (f : X → Y) (r : Result X RecordFault) (y : Y) → 
 map_taken f (Ok x) y e = (x, refl, ok_is (f x) y e)
 map_taken f (Err d) y e = absurd cc
 
--- a record is a build of one
+-- a record is a build of one package
 pub one_record : (c : Content) → IsRecord c → IsBuild (c ∷ [])
 one_record c good = record {
   records = All-cons IsRecord c [] good (All-nil IsRecord);

@@ -1,4 +1,4 @@
--- A text that is cut at the first of some bytes.
+-- Splitting a text at the first of some bytes.
 use Rattle.std.proofs.Common.{◌≡◌, ℕ, ◌+◌, ◌<◌, ◌==◌, ◌++◌, Bool, true, false, cond, List, [], ◌∷◌, length, take, drop, Ok, Err, refl, sym, ap, ◌∙◌, arith}
 use Rattle.std.proofs.Math.Seq.{drop-append-add, take-append_seam}
 use Rattle.std.specs.List.{after_first, before_first, onto_first, position_or_len}
@@ -11,14 +11,14 @@ use Rattle.faults.specs.Pieces.{pieces_at}
 use Rattle.package_record.specs.Reading.{cut_in, line_at}
 use Rattle.package_record.specs.declared.RecordFault.TheVariants.{BadLine, Truncated}
 
--- the first such byte behind a front that lacks it stands where the front ends
+-- the first such byte after a prefix without it is at the end of the prefix
 at_front : (c : ℕ) (front behind : Text) → has_byte c front ≡ false → position_or_len (λ b. b == c) (front ++ c ∷ behind) ≡ length front
 at_front c [] behind lacks = rw (eq-eqb c c refl) refl
 at_front c (x ∷ front) behind lacks =
     let parts = or_parts (x == c) (has_byte c front) lacks in
     rw parts.0 (omega (arith, at_front c front behind parts.1))
 
--- a text that is a front, a byte that it lacks, and what stands behind is cut there
+-- a text made of a prefix without the byte, the byte, and a rest is split there
 pub halves_found : (c : ℕ) (text front behind : Text) → (text ≡ front ++ c ∷ behind) × (has_byte c front ≡ false)
     → (position_or_len (λ b. b == c) text < length text) × (front ≡ before_first (λ b. b == c) text) × (behind ≡ after_first (λ b. b == c) text)
 halves_found c text front behind h =
@@ -28,21 +28,21 @@ halves_found c text front behind h =
     let rest : drop (position_or_len (λ b. b == c) text + 1) text ≡ behind = ap (λ n. drop (n + 1) text) at ∙ ap (drop (length front + 1)) h.0 ∙ drop-append-add front (c ∷ behind) 1 in
     (omega (arith, at, long), sym first, sym rest)
 
--- a text that lacks the byte has it nowhere
+-- a text without the byte has it nowhere
 pub nowhere : (c : ℕ) (text : Text) → has_byte c text ≡ false → position_or_len (λ b. b == c) text ≡ length text
 nowhere c [] lacks = refl
 nowhere c (x ∷ text) lacks =
     let parts = or_parts (x == c) (has_byte c text) lacks in
     rw parts.0 (omega (arith, nowhere c text parts.1))
 
--- what is cut of a text at the first such byte
+-- the parts of a text that is split at the first such byte
 pub cut_found : (c n : ℕ) (text front behind : Text) → (text ≡ front ++ c ∷ behind) × (has_byte c front ≡ false) → cut_in c n text ≡ Ok (front, behind)
 unfolding cut_in
 cut_found c n text front behind h =
     let cut = halves_found c text front behind h in
     rw (lt-ltb _ _ cut.0, cut.1, cut.2) refl
 
--- a text without the byte isn't cut
+-- a text without the byte isn't split
 pub no_cut : (c n : ℕ) (text : Text) → has_byte c text ≡ false → cut_in c n text ≡ Err (BadLine n)
 unfolding cut_in
 no_cut c n text lacks =

@@ -1,4 +1,4 @@
--- What says the same is the same.
+-- Contents that are compared as equal are equal.
 use Rattle.std.specs.Prelude.{◌≡◌, Bool, List, refl}
 use Rattle.std.proofs.Common.{ap}
 use Rattle.std.specs.Bool.{Decides}
@@ -6,14 +6,14 @@ use Rattle.std.specs.Cmp.Lexicographic.{pointwise}
 use Rattle.std.specs.Str.{bytes_eq}
 use Rattle.std.proofs.lemmas.Bool.Decides.{Decides-and, Decides-eqb}
 use Rattle.std.proofs.lemmas.Slice.Eq.{bytes_eq-Decides, slice_eq-Decides}
-use Rattle.agreement.specs.Claims.{claim_same}
-use Rattle.agreement.specs.declared.claim.Claim.{Claim}
+use Rattle.claims.specs.Claims.{claim_same}
+use Rattle.claims.specs.declared.claim.Claim.{Claim}
 use Rattle.claims.specs.declared.deps.Dep.{Dep}
 use Rattle.package_record.specs.BuildReading.{is_same_dep}
 use Rattle.package_record.specs.Content.{Content, NamedFile}
 use Rattle.package_record.specs.inside.Same.{is_same_content, is_same_file}
 
--- two files are one where their names and their bytes are
+-- two files are equal if their names and bytes are
 same_files : (f g : NamedFile) → Decides (is_same_file f g) (f ≡ g)
 same_files f g = (
   λ t. let h = parts.0 t in λ i. record { name = h.0 i; bytes = h.1 i },
@@ -42,7 +42,7 @@ claims_decide c d = (
     parts : Decides (claim_same c d) ((c.round ≡ d.round) × (c.member ≡ d.member))
     parts = Decides-and _ _ (Decides-eqb c.round d.round) (Decides-eqb c.member d.member)
 
--- the package, who built it, and under which claim
+-- the package, the host that built it, and the claim are equal
 abbrev IsMadeAlike : Content → Content → Type 0
 IsMadeAlike c d = (((c.path ≡ d.path) × (c.name ≡ d.name)) × (c.host ≡ d.host)) × (c.claim ≡ d.claim)
 
@@ -73,6 +73,6 @@ same_contents c d = (
         (slice_eq-Decides bytes_eq-Decides c.run d.run _ refl))
         (slice_eq-Decides same_files c.files d.files _ refl)
 
--- lists that say the same are the same
+-- lists that are compared as equal are equal
 pub same_records : (cs ds : List Content) (r : Bool) → r ≡ pointwise is_same_content cs ds → Decides r (cs ≡ ds)
 same_records = slice_eq-Decides same_contents

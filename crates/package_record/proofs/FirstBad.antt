@@ -1,4 +1,4 @@
--- The first name that may not stand where it does.
+-- The first name that isn't allowed in its place.
 use Rattle.std.proofs.Common.{◌≡◌, ℕ, zero, suc, ◌+◌, ◌<◌, ◌≤◌, Bool, true, false, List, [], ◌∷◌, ◌++◌, length, get_or, take, map, Option, None, Some, refl, sym, ap, ◌∙◌, arith, inl, inr}
 use Rattle.std.specs.List.{range_with_len}
 use Rattle.std.proofs.lemmas.Bool.{cases_lt, lt-ltb}
@@ -11,12 +11,12 @@ use Rattle.package_record.specs.Making.{names_fault, too_large}
 use Rattle.package_record.specs.declared.file.File.{File}
 use Rattle.package_record.specs.declared.RecordFault.TheVariants.{BadFileName, TooLarge}
 
--- nothing is given where f gives nothing at any number
+-- there is no first value if f gives none for any number
 given_none : {F : Type 0} (f : ℕ → Option F) (a n : ℕ) → ((k : ℕ) → k < a + n → f k ≡ None) → first_given f (range_with_len a n) ≡ None
 given_none f a zero h = refl
 given_none f a (suc n) h = rw (h a (omega arith)) (given_none f (a + 1) n (λ k lt. h k (omega arith)))
 
--- what f gives first
+-- the first value that f gives
 given_some : {F : Type 0} (f : ℕ → Option F) (x : F) (i a n : ℕ) → a ≤ i → i < a + n → ((k : ℕ) → k < i → f k ≡ None) → f i ≡ Some x → first_given f (range_with_len a n) ≡ Some x
 given_some f x i a zero le lt h e = absurd (omega arith)
 given_some f x i a (suc n) le lt h e =
@@ -43,7 +43,7 @@ pub first_bad_name : (names : List Text) (i : ℕ) → i < length names → ((k 
     → is_next_name (take i names) (get_or names i []) ≡ false → names_fault names ≡ Some (BadFileName (i + 1))
 first_bad_name names i lt good bad = given_some _ (BadFileName (i + 1)) i 0 (length names) (omega arith) (omega arith) (λ k below. rw (good k below) refl) (rw bad refl)
 
--- what a test of the i-th file's name said
+-- the result of testing the name of file i
 pub said_of_name : (files : List File) (i : ℕ) (x : File) (seen : List Text) (name : Text) (said : Bool) → i < length files → x ≡ get_or files i x
     → seen ≡ take i (names_of (map file_view files)) → name ≡ x.name.items → said ≡ is_next_name seen name
     → is_next_name (take i (names_of (map file_view files))) (get_or (names_of (map file_view files)) i []) ≡ said
@@ -57,6 +57,6 @@ names_more files i x seen now name lt is e n more =
     let below : i < length names = omega (arith, count_names files) in
     more ∙ ap (λ (l : List Text). l ++ name ∷ []) e ∙ ap (λ (t : Text). take i names ++ t ∷ []) (n ∙ sym (named files i x lt is)) ∙ sym (take_more names i [] below)
 
--- a length without fault is within the limit
+-- a length without a fault is within the limit
 pub within : (n : ℕ) → too_large n ≡ None → n ≤ most_bytes
 within n none = elim (cases_lt most_bytes n) [ inl over ↦ absurd (let e : too_large n ≡ Some TooLarge = rw (lt-ltb most_bytes n over) refl in (cc)) | inr le ↦ le ]

@@ -1,4 +1,4 @@
--- Records that stand behind one another in a build.
+-- Records that follow one another in a build.
 use Rattle.std.proofs.Common.{◌≡◌, ◌≢◌, ℕ, suc, ◌+◌, ◌<◌, ◌≤◌, Bool, true, false, not, ◌&&◌, ◌==◌, cond, List, [], ◌∷◌, ◌++◌, length, drop, get_or, Option, None, Some, refl, sym, ap, ◌∙◌, append_assoc, arith}
 use Rattle.std.specs.Bool.{Decides}
 use Rattle.std.specs.Cmp.Lexicographic.{pointwise}
@@ -9,12 +9,12 @@ use Rattle.std.proofs.lemmas.Bool.{and_from, and_parts, eq-eqb, eqb-true}
 use Rattle.std.proofs.lemmas.List.{append-nil, drop_all, map-append}
 use Rattle.std.proofs.lemmas.List.Elements.{All-cons, All-nil}
 use Rattle.std.proofs.lemmas.Slice.Eq.{bytes_eq-Decides, slice_eq-Decides}
-use Rattle.agreement.specs.Claims.{claim_same}
-use Rattle.agreement.specs.declared.claim.Claim.{Claim}
+use Rattle.claims.specs.Claims.{claim_same}
+use Rattle.claims.specs.declared.claim.Claim.{Claim}
 use Rattle.faults.specs.Bytes.{Text}
 use Rattle.claims.specs.Deps.{is_ascending}
 use Rattle.claims.specs.declared.deps.Dep.{Dep}
-use Rattle.pkgpath.specs.PkgPath.{without_subpackage}
+use Rattle.claims.specs.PkgPath.{without_subpackage}
 use Rattle.package_record.specs.Build.{AreAlike, IsAlike, paths_of}
 use Rattle.package_record.specs.BuildReading.{is_next_path, is_same_dep, next_fault, unlike_fault}
 use Rattle.package_record.specs.Content.{Content}
@@ -22,7 +22,7 @@ use Rattle.package_record.specs.Reading.{is_above, last_of}
 use Rattle.package_record.proofs.Lists.{drop_one}
 use Rattle.package_record.proofs.Ascending.{ascending_above, ascending_more, last_mapped}
 
--- ---- what is the same
+-- ---- equal fields
 
 same_dep : (d e : Dep) → is_same_dep d e ≡ true → d ≡ e
 same_dep d e same =
@@ -58,9 +58,9 @@ same_claim c d same =
 claim_itself : (c : Claim) → claim_same c c ≡ true
 claim_itself c = and_from _ _ (eq-eqb c.round c.round refl) (eq-eqb c.member c.member refl)
 
--- ---- one record behind others
+-- ---- one record after others
 
--- no test applies where all fail
+-- there is no fault if all tests hold
 pub no_fault : (front : List Content) (first c : Content) → is_above (option_map (λ before. before.path) (last_of front)) c.path ≡ true → IsAlike first c → unlike_fault front first c ≡ None
 no_fault front first c above alike =
     let path : is_next_path front first c ≡ true = and_from _ _ above ((bytes_eq-Decides (without_subpackage c.path) (without_subpackage first.path)).1 alike.group) in
@@ -77,7 +77,7 @@ tests_fail true true false s e f g h none = absurd cc
 tests_fail true true true false e f g h none = absurd cc
 tests_fail true true true true e f g h none = (refl, refl, refl, refl)
 
--- what holds of a record that may follow
+-- what holds of a record without a fault
 pub faultless : (front : List Content) (first c : Content) → unlike_fault front first c ≡ None
     → (is_above (option_map (λ before. before.path) (last_of front)) c.path ≡ true) × IsAlike first c
 faultless front first c none =
@@ -94,7 +94,7 @@ faultless front first c none =
 
 -- ---- all records
 
--- each may stand behind those before it
+-- each may follow those before it
 abbrev pub AllFollow : List Content → List Content → Type 0
 AllFollow front [] = Unit {0}
 AllFollow front (c ∷ cs) = (next_fault front c ≡ None) × AllFollow (front ++ c ∷ []) cs
@@ -116,7 +116,7 @@ pub all_follow : (cs : List Content) → is_ascending (paths_of cs) ≡ true →
 all_follow [] up alike = absurd alike
 all_follow (c ∷ cs) up alike = (refl, follow_behind c [] cs up alike)
 
--- records that follow one another ascend, and are alike
+-- records that follow one another ascend, and can be of one build
 followed : (c : Content) (front cs : List Content) → is_ascending (paths_of (c ∷ front)) ≡ true → AllFollow (c ∷ front) cs
     → (is_ascending (paths_of ((c ∷ front) ++ cs)) ≡ true) × All (IsAlike c) cs
 followed c front [] up follow = (ap (λ (xs : List Content). is_ascending (paths_of xs)) (append-nil (c ∷ front)) ∙ up, All-nil (IsAlike c))

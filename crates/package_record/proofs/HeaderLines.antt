@@ -1,4 +1,4 @@
--- What is read of a header's lines is spelled so.
+-- What is parsed of the lines of a header is their text.
 use Rattle.std.proofs.Common.{◌≡◌, ℕ, zero, suc, ◌+◌, ◌-◌, ◌<◌, ◌≤◌, ◌^◌, true, cond, leb, List, [], ◌∷◌, ◌++◌, ◌&&◌, ◌⊎◌, inl, inr, length, take, drop, map, Option, Some, Result, Ok, Err, refl, sym, ap, subst, ◌∙◌, append_assoc, arith, codes, decimal}
 use Rattle.std.specs.List.{All, flat_map, sum_by}
 use Rattle.std.specs.Str.{bytes_eq}
@@ -15,10 +15,10 @@ use Rattle.hex.specs.Hex.{encode_lower, lower_digits}
 use Rattle.hex.proofs.HexLemmas.{decode_of-ok, decode_sized-ok, decode_sized-twice, length-encode_with}
 use Rattle.sha2.specs.Sha256.{sha256}
 use Rattle.faults.specs.Bytes.{Text}
-use Rattle.pkgname.specs.PkgName.{IsName}
-use Rattle.pkgpath.specs.PkgPath.{IsPath}
+use Rattle.claims.specs.PkgName.{IsName}
+use Rattle.claims.specs.PkgPath.{IsPath}
 use Rattle.claims.specs.Claim.{IsClaim, greatest_round}
-use Rattle.agreement.specs.declared.claim.Claim.{Claim}
+use Rattle.claims.specs.declared.claim.Claim.{Claim}
 use Rattle.claims.specs.Deps.{is_ascending}
 use Rattle.claims.specs.declared.deps.Dep.{Dep}
 use Rattle.package_record.specs.Content.{AreFileNames, IsDep, NamedFile, built_line, claim_line, file_lines, is_next_name, names_of, run_line}
@@ -150,7 +150,7 @@ front_taken p x e =
     front : Text → Text → ℕ → Claim → Front
     front name path host claim = record { name = name; path = path; host = host; claim = claim }
 
--- ---- the lines that may stand any number of times
+-- ---- repeated lines
 
 one_all : {X : Type 0} (P : X → Type 0) (x : X) → P x → All P (x ∷ [])
 one_all P x h zero d lt = h
@@ -205,7 +205,7 @@ all_run p ts q e =
     let t = many_taken run_at (λ path. run_line path ∷ []) ArePaths run_step (length p.lines) [] p ts q e (record { paths = All-nil IsPath; order = refl }) in
     (t.parts ∙ ap (λ (ls : List Text). ls ++ t.last.lines) (flat_map_single run_line t.more ∙ ap (map run_line) (sym t.all)) ∙ ap (λ (ls : List Text). map run_line ts ++ ls) (run_stops ts t.last q t.stops), t.keeps)
 
--- one more name that may stand behind the others
+-- one more name that may follow the others
 names_push : (names : List Text) (name : Text) → AreFileNames names → is_next_name names name ≡ true → AreFileNames (names ++ name ∷ [])
 names_push names name good next k lt =
     elim (cases_lt k (length names)) [
@@ -231,7 +231,7 @@ all_files p hs q e =
 
 -- ---- the bytes
 
--- the files that stand behind the header
+-- the files after the header
 pub record Bodies (front : List NamedFile) (hs : List Head) (bytes : Text) (fs : List NamedFile) (rest : Text) : Type 0 where
   pub more : List NamedFile
   pub all : fs ≡ front ++ more

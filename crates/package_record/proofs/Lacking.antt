@@ -1,4 +1,4 @@
--- Bytes that stand nowhere in a text.
+-- Bytes that don't occur in a text.
 use Rattle.std.proofs.Common.{◌≡◌, ℕ, zero, suc, ◌/◌, ◌%◌, Bool, true, false, not, ◌||◌, cond, eqb, List, [], ◌∷◌, ◌++◌, get_or, Option, Some, None, Ok, refl, sym, ap, ◌∙◌, inl, inr}
 use Rattle.std.specs.List.{All, list_all, onto_first}
 use Rattle.std.proofs.lemmas.Bool.{and_from, and_parts, cases_Bool, eqb-true, not-true, or_parts}
@@ -9,11 +9,11 @@ use Rattle.hex.specs.Hex.{encode_lower, encode_with, lower_digits}
 use Rattle.faults.specs.Answers.{unless_fault}
 use Rattle.faults.specs.Bytes.{Text, comma, has_byte, slash}
 use Rattle.faults.specs.Pieces.{pieces_at}
-use Rattle.pkgname.specs.PkgName.{IsName, fault_of as name_fault_of, has_empty_flavor, is_name_byte}
-use Rattle.pkgname.specs.declared.NameFault.TheVariants as name_faults
-use Rattle.pkgpath.specs.PkgPath.{IsPath, directory_of, fault_of as path_fault_of, is_component, is_part, is_path_byte, parts_of}
-use Rattle.pkgpath.proofs.FirstFault.{faultless}
-use Rattle.pkgpath.proofs.Pieces.{lacks, pieces-split}
+use Rattle.claims.specs.PkgName.{IsName, fault_of as name_fault_of, has_empty_flavor, is_name_byte}
+use Rattle.claims.specs.NameFault.TheVariants as name_faults
+use Rattle.claims.specs.PkgPath.{IsPath, directory_of, fault_of as path_fault_of, is_component, is_part, is_path_byte, parts_of}
+use Rattle.claims.proofs.FirstFault.{faultless}
+use Rattle.claims.proofs.Pieces.{lacks, pieces-split}
 
 -- ---- texts
 
@@ -26,7 +26,7 @@ lacks_all c (b ∷ bs) none =
 pub lacks-append : (c : ℕ) (xs ys : Text) → has_byte c xs ≡ false → has_byte c ys ≡ false → has_byte c (xs ++ ys) ≡ false
 lacks-append c xs ys front behind = list_any-append (λ b. eqb b c) xs ys ∙ rw front behind
 
--- where each byte passes a test that the byte doesn't
+-- if all bytes of the text pass a test, and this byte doesn't
 pub lacks_failing : (p : ℕ → Bool) (c : ℕ) (text : Text) → p c ≡ false → list_all p text ≡ true → has_byte c text ≡ false
 lacks_failing p c [] fails all = refl
 lacks_failing p c (b ∷ bs) fails all =
@@ -51,7 +51,7 @@ onto_first_lacks c b (p ∷ ps) all =
     let here = or_parts (eqb b c) (has_byte c p) (not-true (has_byte c (b ∷ p)) parts.0) in
     (here.0, and_from (lacks c p) (list_all (lacks c) ps) (ap not here.1) parts.1)
 
--- where no piece has the byte, and it is not the one that separates
+-- if no piece has the byte, and it isn't the separator
 pub lacks_in_pieces : (s c : ℕ) (text : Text) → eqb s c ≡ false → list_all (lacks c) (pieces_at s text) ≡ true → has_byte c text ≡ false
 lacks_in_pieces s c [] other all = refl
 lacks_in_pieces s c (b ∷ bs) other all =

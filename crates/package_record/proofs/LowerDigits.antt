@@ -27,7 +27,7 @@ one_byte : (byte : ℕ) → byte < 256 → IsBytes (byte ∷ [])
 one_byte byte small zero = small
 one_byte byte small (suc i) = omega arith
 
--- one byte more is read
+-- one more byte is decoded
 pub one_more_read : (text bytes : List ℕ) (i high low : ℕ) → 2 * i + 1 < length text → i < length bytes → low < 16
     → slice_index lower_digits high ≡ slice_index text (2 * i) → slice_index lower_digits low ≡ slice_index text (2 * i + 1)
     → encode_lower (take i bytes) ≡ take (2 * i) text
@@ -36,7 +36,7 @@ one_more_read text bytes i high low within room fits front behind before =
     let two : 2 * (i + 1) ≡ 2 * i + 2 = omega arith in
     rw (two, take-two text (2 * i) within, take_more_set bytes i (high * 16 + low) room, encode_with-append lower_digits (take i bytes) ((high * 16 + low) ∷ []), encode_with-one lower_digits high low fits, before, front, behind) refl
 
--- one byte more is written
+-- one more byte is encoded
 pub one_more_written : (bytes text : List ℕ) (i high low : ℕ) → i < length bytes → 2 * i + 1 < length text
     → high ≡ slice_index lower_digits (slice_index bytes i / 16) → low ≡ slice_index lower_digits (slice_index bytes i % 16)
     → encode_lower (take i bytes) ≡ take (2 * i) text
@@ -47,13 +47,13 @@ one_more_written bytes text i high low within room front behind before =
     let set : length (slice_set text (2 * i) high) ≡ length text = length-set text (2 * i) high in
     rw (two, take_more_set (slice_set text (2 * i) high) (2 * i + 1) low (omega arith), take_more_set text (2 * i) high (omega arith), take_more bytes i 0 within, encode_with-append lower_digits (take i bytes) (slice_index bytes i ∷ []), before, front, behind) (sym (append_assoc (take (2 * i) text) _ _))
 
--- every byte is written
+-- all bytes are encoded
 pub whole_written : (bytes text : List ℕ) (i : ℕ) → length bytes ≡ 32 → length text ≡ 64 → 32 ≤ i
     → encode_lower (take i bytes) ≡ take (2 * i) text → text ≡ encode_lower bytes
 whole_written bytes text i size long done written =
     sym (rw (take_all i bytes (omega arith), take_all (2 * i) text (omega arith)) at written)
 
--- the digits of a byte stand at its place
+-- the digits of a byte are at its place
 digits_at : (t bytes : List ℕ) (i : ℕ) → i < length bytes
     → (slice_index (encode_with t bytes) (2 * i) ≡ slice_index t (slice_index bytes i / 16))
     × (slice_index (encode_with t bytes) (2 * i + 1) ≡ slice_index t (slice_index bytes i % 16))
@@ -65,7 +65,7 @@ digits_at t (x ∷ xs) (suc i) within =
     let three : 2 * suc i + 1 ≡ suc (suc (2 * i + 1)) = omega arith in
     rw (three, two) (digits_at t xs i (omega arith))
 
--- where bytes have the text, its digits are found
+-- if the text is that of some bytes, its digits are found
 pub both_found : (text bytes : List ℕ) (i high low : ℕ) → IsBytes bytes → encode_lower bytes ≡ text → 2 * i + 1 < length text
     → ((value : ℕ) → value < 16 → slice_index lower_digits value ≡ slice_index text (2 * i) → high ≡ value)
     → ((value : ℕ) → value < 16 → slice_index lower_digits value ≡ slice_index text (2 * i + 1) → low ≡ value)
@@ -84,7 +84,7 @@ pub one_more_byte : (bytes : List ℕ) (i byte : ℕ) → i < length bytes → b
 one_more_byte bytes i byte room small before =
     rw (take_more_set bytes i byte room) (bytes-append (take i bytes) (byte ∷ []) before (one_byte byte small))
 
--- every digit is read
+-- all digits are decoded
 pub whole_read : (text bytes : List ℕ) (i : ℕ) → length bytes ≡ 32 → length text ≡ 64 → 32 ≤ i → IsBytes (take i bytes)
     → encode_lower (take i bytes) ≡ take (2 * i) text → (decode_sized text 32 ≡ Ok bytes) × (encode_lower bytes ≡ text)
 whole_read text bytes i size long done fits read =
@@ -92,7 +92,7 @@ whole_read text bytes i size long done fits read =
     let all : IsBytes bytes = rw (take_all i bytes (omega arith)) at fits in
     (decode_sized-twice text 32 long ∙ ap decode_of (sym written) ∙ decode_of-encode_lower bytes all, written)
 
--- what a text is decoded to are bytes
+-- decoding a text gives bytes
 pub decoded_bytes : (text bytes : List ℕ) → decode_sized text 32 ≡ Ok bytes → (length text ≡ 64) × IsBytes bytes
 decoded_bytes text bytes read =
     let long = decode_sized-ok text 32 bytes read in

@@ -1,4 +1,4 @@
--- Reading while there is one more.
+-- Parsing while there is one more element.
 use Rattle.std.proofs.Common.{◌≡◌, ℕ, zero, suc, ◌<◌, ◌≤◌, List, [], ◌∷◌, ◌++◌, length, Option, Some, None, Result, Ok, Err, refl, sym, ap, subst, ◌∙◌, append_assoc, arith}
 use Rattle.std.specs.List.{flat_map}
 use Rattle.std.proofs.lemmas.List.{append-nil}
@@ -10,7 +10,7 @@ use Rattle.package_record.specs.declared.RecordFault.{RecordFault}
 use Rattle.package_record.specs.declared.fault.ReadError.{ReadError}
 use Rattle.package_record.specs.declared.fault.ReadError.TheVariants as errors
 
--- what is still to be read gives the total, and the fuel is enough for it
+-- what is still to be parsed gives the total, and the fuel suffices for it
 pub record Fueled {X : Type 0} (one : List X → Place → Result (Option X × Place) RecordFault) (front : List X) (p : Place) (total : Result (List X × Place) RecordFault) : Type 0 where
   pub fuel : ℕ
   pub enough : length p.lines ≤ fuel
@@ -45,7 +45,7 @@ module _ {X : Type 0} (one : List X → Place → Result (Option X × Place) Rec
   fueled_fails errors.Memory f some h = tt
   fueled_fails (errors.Fault d) f some h = fails f.fuel f.enough f.gives some d h
 
--- what was read one after the other, the lines that it took, and the place where no more stood
+-- the elements that were parsed one after the other, their lines, and the place after them
 module _ {X : Type 0} (one : List X → Place → Result (Option X × Place) RecordFault) (lines : X → List Text) (Keeps : List X → Type 0)
     (step : (front : List X) (p : Place) (x : X) (q : Place) → one front p ≡ Ok (Some x, q) → Keeps front → (p.lines ≡ lines x ++ q.lines) × Keeps (front ++ x ∷ [])) where
   pub record Took (front : List X) (p : Place) (xs : List X) (q : Place) : Type 0 where

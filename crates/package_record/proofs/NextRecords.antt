@@ -1,4 +1,4 @@
--- Reading records one after the other.
+-- Parsing records one after the other.
 use Rattle.std.proofs.Common.{◌≡◌, ℕ, zero, suc, ◌+◌, ◌-◌, ◌<◌, ◌≤◌, ◌⊎◌, List, [], ◌∷◌, ◌++◌, length, true, false, eqb, take, drop, get_or, Option, None, Some, Result, Ok, Err, refl, sym, ap, ◌∙◌, arith, inl, inr}
 use Rattle.std.proofs.lemmas.Bool.{eqb-true, le-ltb, lt-ltb}
 use Rattle.std.proofs.lemmas.List.{drop_all, length-drop, take_all}
@@ -12,16 +12,16 @@ use Rattle.package_record.specs.declared.RecordFault.TheVariants.{TooLarge, Trai
 use Rattle.package_record.proofs.Lists.{drop_one}
 use Rattle.package_record.proofs.ReadFields.{where_false, where_true}
 
--- an answer that is right, or memory's, stays so where the refusal is passed on
+-- a right result, or `Memory`, is still right if the refusal is passed on
 pub passed_on : {A B F : Type 0} (memory e : F) (r : Result A F) (s : Result B F) → (r ≡ Err e → s ≡ Err e) → (e ≡ memory) ⊎ (r ≡ Err e) → (e ≡ memory) ⊎ (s ≡ Err e)
 passed_on memory e r s on (inl m) = inl m
 passed_on memory e r s on (inr h) = inr (on h)
 
--- and so it is where the refusal that is passed on is only known to equal it
+-- likewise, if the refusal that is passed on is only known to be equal
 pub passed_as : {A B F : Type 0} (memory e f : F) → f ≡ e → (r : Result A F) (s : Result B F) → (r ≡ Err e → s ≡ Err e) → (e ≡ memory) ⊎ (r ≡ Err e) → (f ≡ memory) ⊎ (s ≡ Err f)
 passed_as memory e f same r s on h = rw same (passed_on memory e r s on h)
 
--- ---- so many records
+-- ---- this number of records
 
 pub records_more : (n k : ℕ) (front : List Content) (text : Text) (total : Result (List Content × Text) RecordFault) (x : Content × Text) → 0 < k → records_in n k front text ≡ total
     → next_of n front text ≡ Ok x → records_in n (k - 1) (front ++ x.0 ∷ []) x.1 ≡ total
@@ -43,7 +43,7 @@ unfolding records_in
 records_fail n zero front text total f some e next = absurd (omega arith)
 records_fail n (suc k) front text total f some e next = sym e ∙ rw next refl
 
--- ---- what is given first
+-- ---- the first value given
 
 pub given_next : {X F : Type 0} (f : X → Option F) (xs : List X) (i : ℕ) (x : X) → i < length xs → x ≡ get_or xs i x → first_given f (drop i xs) ≡ option_or (f x) (first_given f (drop (i + 1) xs))
 given_next f xs i x lt here = rw (drop_one xs i x lt here) refl
@@ -59,7 +59,7 @@ pub fault_some : {X F : Type 0} (o : Option F) (x : X) (f : F) → unless_fault 
 fault_some None x f e = absurd cc
 fault_some (Some g) x f e = cc
 
--- what the next item gives first
+-- the first value, given by the next item
 pub given_here : {X F : Type 0} (f : X → Option F) (xs : List X) (i : ℕ) (x : X) (e : F) → i < length xs → x ≡ get_or xs i x → f x ≡ Some e → first_given f (drop i xs) ≡ Some e
 given_here f xs i x e lt here some = given_next f xs i x lt here ∙ rw some refl
 
@@ -87,7 +87,7 @@ module _ (n : ℕ) (front : List Content) (text : Text) where
 
 -- ---- the whole
 
--- a slice to the end of a text
+-- a slice up to the end of a text
 pub rest_whole : (text : Text) (n : ℕ) → take (length text - n) (drop n text) ≡ drop n text
 rest_whole text n = take_all (length text - n) (drop n text) (omega (arith, length-drop n text))
 

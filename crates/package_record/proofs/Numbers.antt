@@ -4,7 +4,7 @@ use Rattle.std.specs.List.{list_all}
 use Rattle.std.proofs.lemmas.List.{take_more}
 use Rattle.std.proofs.lemmas.List.Folds.{list_all-append}
 
--- one digit more, where numbers stop at the limit
+-- one more digit, if numbers saturate at the limit
 pub saturates : (limit value number times digit sum more byte worth : ℕ) → number ≡ min value limit → times ≡ min (number * 10) limit → digit ≡ byte - 48
     → sum ≡ min (times + digit) limit → more ≡ value * 10 + worth → worth + 48 ≡ byte → sum ≡ min more limit
 saturates limit value number times digit sum more byte worth e1 e2 e3 e4 e5 e6 = omega arith

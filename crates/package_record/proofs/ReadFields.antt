@@ -1,4 +1,4 @@
--- Fields that are spelled so are read.
+-- The texts of fields are parsed as these fields.
 use Rattle.std.proofs.Common.{◌≡◌, ℕ, ◌+◌, ◌<◌, ◌≤◌, ◌^◌, Bool, true, false, cond, not, ◌&&◌, ◌||◌, eqb, leb, ltb, List, [], ◌∷◌, ◌++◌, length, get_or, take, drop, Result, Ok, Err, refl, sym, ap, ◌∙◌, arith, inl, inr, codes, decimal}
 use Rattle.std.specs.Char.{is_ascii_digit}
 use Rattle.std.specs.List.{list_all, position_or_len}
@@ -15,9 +15,9 @@ use Rattle.std.proofs.Math.Seq.{drop-append-add, drop-append_seam, get_or-append
 use Rattle.hex.specs.Hex.{IsBytes, encode_lower}
 use Rattle.hex.proofs.HexLemmas.{decode_sized-encode_lower}
 use Rattle.faults.specs.Bytes.{Text, begins_with, has_byte, is_empty}
-use Rattle.pkgname.specs.PkgName.{IsName}
-use Rattle.pkgpath.specs.PkgPath.{IsPath}
-use Rattle.agreement.specs.declared.claim.Claim.{Claim}
+use Rattle.claims.specs.PkgName.{IsName}
+use Rattle.claims.specs.PkgPath.{IsPath}
+use Rattle.claims.specs.declared.claim.Claim.{Claim}
 use Rattle.claims.specs.Claim.{IsClaim, greatest_round}
 use Rattle.claims.specs.declared.deps.Dep.{Dep}
 use Rattle.package_record.specs.Content.{IsDep, most_bytes}
@@ -40,7 +40,7 @@ same_text text = (bytes_eq-Decides text text).1 refl
 
 -- ---- lines
 
--- the place behind n lines, with these before it
+-- the place after n lines, with these lines left
 abbrev pub at : ℕ → List Text → Place
 at n ls = record { passed = n; lines = ls }
 

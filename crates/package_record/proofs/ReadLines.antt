@@ -1,4 +1,4 @@
--- Lines that are spelled so are read.
+-- The texts of lines are parsed as these lines.
 use Rattle.std.proofs.Common.{◌≡◌, ℕ, zero, suc, ◌+◌, ◌<◌, ◌≤◌, true, false, not, List, [], ◌∷◌, ◌++◌, length, take, drop, map, option_map, Option, Some, None, Result, Ok, refl, sym, ap, subst, ◌∙◌, append_assoc, arith, codes, decimal}
 use Rattle.std.specs.List.{All, flat_map, list_all, sum_by}
 use Rattle.std.proofs.lemmas.Bool.{and_parts, not-true}
@@ -11,9 +11,9 @@ use Rattle.sha2.specs.Sha256.{sha256}
 use Rattle.sha2.proofs.Facts256.{length-sha256}
 use Rattle.faults.specs.Bytes.{Text, begins_with, is_among, is_empty, slash}
 use Rattle.faults.specs.Pieces.{pieces_at}
-use Rattle.pkgname.specs.PkgName.{IsName}
-use Rattle.pkgpath.specs.PkgPath.{IsPath}
-use Rattle.agreement.specs.declared.claim.Claim.{Claim}
+use Rattle.claims.specs.PkgName.{IsName}
+use Rattle.claims.specs.PkgPath.{IsPath}
+use Rattle.claims.specs.declared.claim.Claim.{Claim}
 use Rattle.claims.specs.Claim.{IsClaim}
 use Rattle.claims.specs.Deps.{is_ascending}
 use Rattle.claims.specs.declared.deps.Dep.{Dep}
@@ -53,7 +53,7 @@ claim_line_read n c ls good more =
     ap (λ (l : Text). claim_at (at n (l ∷ ls))) (dotted (codes "@claim ") (decimal c.round) (decimal c.member))
     ∙ rw (field_read (codes "@claim ") text n ls more, claim_read (n + 1) c good)
 
--- what the first five lines of a record say
+-- the contents of the first five lines of a record
 abbrev pub front_of : Content → Front
 front_of c = record { name = c.name; path = c.path; host = c.host; claim = c.claim }
 
@@ -69,16 +69,16 @@ front_read c ls name path host claim more =
       claim_line_read 4 c.claim ls claim more,
     )
 
--- ---- what may stand any number of times
+-- ---- repeated lines
 
 module _ {X : Type 0} (one : List X → Place → Result (Option X × Place) RecordFault) (lines : X → List Text) (Fits : ℕ → List X → X → Type 0)
     (read : (front : List X) (n : ℕ) (x : X) (ls : List Text) → Fits n front x → 0 < length ls → one front (at n (lines x ++ ls)) ≡ Ok (Some x, at (n + length (lines x)) ls)) where
-  -- each may come behind those before it, and at its line
+  -- each may follow those before it, at its line
   abbrev pub AllFit : ℕ → List X → List X → Type 0
   AllFit n front [] = Unit {0}
   AllFit n front (x ∷ xs) = Fits n front x × AllFit (n + length (lines x)) (front ++ x ∷ []) xs
 
-  -- how many lines were passed behind them
+  -- the number of lines passed after them
   abbrev pub passed_by : ℕ → List X → ℕ
   passed_by n [] = n
   passed_by n (x ∷ xs) = passed_by (n + length (lines x)) xs
@@ -152,7 +152,7 @@ all_built_read n ds ls deps order next =
           ∙ many_read built_at line BuiltFits built_read (length (flat_map line ds ++ ls)) [] ds n ls (at m ls) enough (built_fits n [] ds deps order) some stops,
     )
 
--- ---- paths that it runs with
+-- ---- paths to run
 
 record RunFits (n : ℕ) (front : List Text) (path : Text) : Type 0 where
   canonical : IsPath path
@@ -235,7 +235,7 @@ files_stop : (front : List Head) (n : ℕ) (ls : List Text) → 0 < length ls �
 unfolding entry_at
 files_stop front n ls more = rw (line_read n [] ls more)
 
--- what the lines of a file say, behind n lines
+-- the contents of the lines of a file, after n lines
 abbrev pub head_from : ℕ → NamedFile → Head
 head_from n f = record { name = f.name; digest = sha256 f.bytes; size = length f.bytes; line = n + 2 }
 

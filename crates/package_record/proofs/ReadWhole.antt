@@ -1,4 +1,4 @@
--- A record that is spelled so is read.
+-- The text of a record is parsed as that record.
 use Rattle.std.proofs.Common.{◌≡◌, ℕ, zero, suc, ◌+◌, ◌-◌, ◌<◌, ◌≤◌, ◌^◌, true, false, not, eqb, ltb, List, [], ◌∷◌, ◌++◌, length, get_or, take, drop, map, inl, inr, Ok, refl, sym, ap, ◌∙◌, append_assoc, arith, codes, decimal}
 use Rattle.std.specs.Char.{is_ascii_digit}
 use Rattle.std.specs.List.{All, flat_map, list_all, sum_by}
@@ -13,10 +13,10 @@ use Rattle.hex.specs.Hex.{encode_lower}
 use Rattle.sha2.specs.Sha256.{sha256}
 use Rattle.faults.specs.Bytes.{Text, begins_with, has_byte, is_among}
 use Rattle.faults.specs.Pieces.{pieces_at}
-use Rattle.pkgpath.specs.PkgPath.{IsPath}
-use Rattle.pkgpath.proofs.Pieces.{lacks}
+use Rattle.claims.specs.PkgPath.{IsPath}
+use Rattle.claims.proofs.Pieces.{lacks}
 use Rattle.claims.specs.Claim.{IsClaim, greatest_round}
-use Rattle.agreement.specs.declared.claim.Claim.{Claim}
+use Rattle.claims.specs.declared.claim.Claim.{Claim}
 use Rattle.claims.specs.declared.deps.Dep.{Dep}
 use Rattle.package_record.specs.Content.{AreFileNames, Content, IsDep, IsRecord, NamedFile, built_line, claim_line, ended, file_lines, front_lines, header_lines, is_file_name, is_printable, most_bytes, names_of, record_text, run_line}
 use Rattle.package_record.specs.Reading.{Header, content_of_parts, files_in, first_of, header_of, total_of, whole_of}
@@ -72,7 +72,7 @@ any_default [] k d below = absurd (omega arith)
 any_default (name ∷ names) zero d below = refl
 any_default (name ∷ names) (suc k) d below = any_default names k d (omega arith)
 
--- each name that stands in the list is a file name
+-- each name in the list is the name of a file
 named : (names : List Text) → AreFileNames names → All (λ name. is_file_name name ≡ true) names
 named names good k d below = rw (any_default names k d below) (and_parts _ (not (is_among (take k names) (get_or names k []))) (good k below)).0
 
@@ -98,7 +98,7 @@ header_lacks c good total =
 
 -- ---- the lines of a text
 
--- lines that are each ended, and the bytes behind them
+-- the lines, each ended by LF, and the bytes after them
 pub ended_split : (hs : List Text) (bytes : Text) → list_all (lacks 10) hs ≡ true → pieces_at 10 (ended hs ++ bytes) ≡ hs ++ pieces_at 10 bytes
 unfolding ended
 ended_split [] bytes none = refl
@@ -117,7 +117,7 @@ no_word word (c ∷ cs) other =
       | inr apart ↦ rw apart refl
     ]
 
--- behind the last dependency or path stands a file's name or the empty line
+-- after the last dependency or path there is a file's name or the empty line
 next_entry : (word : Text) (fs : List NamedFile) (ls : List Text) → All (λ name. is_file_name name ≡ true) (names_of fs) → 0 < length ls → Next (64 ∷ word) (flat_map file_lines fs ++ ([] ∷ ls))
 next_entry word [] ls good some = record { line = []; more = ls; is = refl; some = some; other = refl }
 next_entry word (f ∷ fs) ls good some = record {
@@ -141,7 +141,7 @@ next_run (path ∷ paths) fs ls good some = record {
 
 -- ---- the header
 
--- what a record's header says, where its files begin behind n lines
+-- the contents of a record's header, whose files begin after n lines
 abbrev header_from : Content → ℕ → Header
 header_from c n = record { front = front_of c; built = c.built; run = c.run; heads = heads_from n c.files }
 
@@ -215,7 +215,7 @@ front_header c rest good =
     let h = header_read c (flat_map (λ f. f.bytes) c.files ++ rest) good (omega (arith, text_length c, short)) in
     (h.0, ap header_of (text_parts c rest) ∙ h.1)
 
--- the text of a record is read as that record
+-- the text of a record is parsed as that record
 pub text_is_read : (c : Content) → IsRecord c → whole_of (record_text c) ≡ Ok c
 unfolding whole_of
 text_is_read c good =
@@ -223,7 +223,7 @@ text_is_read c good =
     let header : header_of (record_text c) ≡ Ok (header_from c h.0, flat_map (λ f. f.bytes) c.files ++ []) = ap header_of (sym (append-nil (record_text c))) ∙ h.1 in
     where_false (ltb most_bytes (length (record_text c))) _ _ (le-ltb most_bytes (length (record_text c)) good.fits) ∙ rw (header, content_read c h.0 [])
 
--- and so it is where more stands behind it
+-- also if more text follows
 pub front_is_read : (c : Content) (rest : Text) → IsRecord c → first_of (record_text c ++ rest) ≡ Ok (c, rest)
 unfolding first_of
 front_is_read c rest good =
@@ -235,7 +235,7 @@ front_is_read c rest good =
     omega (arith, short, length-append (record_text c) rest, length-append (flat_map (λ f. f.bytes) c.files) rest, sizes_are h.0 c.files, text_length c) in
     rw h.1 (where_false (ltb most_bytes (length text - length bytes + total_of (header_from c h.0))) _ _ (le-ltb most_bytes _ within) ∙ content_read c h.0 rest)
 
--- no text of a record begins that of another
+-- no text of a record is a proper prefix of another's
 pub no_text_begins : (c d : Content) (rest : Text) → IsRecord c → IsRecord d → record_text d ≡ record_text c ++ rest → (c ≡ d) × (rest ≡ [])
 no_text_begins c d rest c_good d_good begins =
     let same : (c, rest) ≡ (d, []) = ok_is (c, rest) (d, []) (sym (front_is_read c rest c_good) ∙ ap first_of (sym begins ∙ sym (append-nil (record_text d))) ∙ front_is_read d [] d_good) in

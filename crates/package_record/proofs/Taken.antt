@@ -1,4 +1,4 @@
--- What a reader took from the front of the lines.
+-- What a parser has taken from the front of the lines.
 use Rattle.std.proofs.Common.{◌≡◌, ℕ, ◌+◌, ◌<◌, ◌≤◌, Bool, true, false, cond, not, ◌&&◌, ◌||◌, ◌^◌, leb, List, [], ◌∷◌, ◌++◌, length, get_or, take, drop, eqb, ltb, ◌==◌, option_map, Option, Some, None, Result, Ok, Err, refl, sym, ap, subst, ◌∙◌, append_assoc, arith, inl, inr, codes, decimal}
 use Rattle.std.specs.Char.{is_ascii_digit}
 use Rattle.std.specs.List.{after_first, before_first, list_all, position_or_len}
@@ -12,8 +12,8 @@ use Rattle.std.proofs.lemmas.List.Sums.{prefix_len_stops, split_at_first}
 use Rattle.std.proofs.lemmas.Slice.Eq.{bytes_eq-Decides}
 use Rattle.hex.specs.Hex.{decode_sized, encode_lower}
 use Rattle.faults.specs.Bytes.{Text, begins_with, is_empty}
-use Rattle.pkgname.specs.PkgName.{IsName, name_of}
-use Rattle.pkgpath.specs.PkgPath.{IsPath, path_of}
+use Rattle.claims.specs.PkgName.{IsName, name_of}
+use Rattle.claims.specs.PkgPath.{IsPath, path_of}
 use Rattle.claims.specs.declared.deps.Dep.{Dep}
 use Rattle.package_record.specs.Content.{built_line, is_next_name, most_bytes, run_line}
 use Rattle.package_record.specs.Reading.{Head, Place, ◌>>=◌, built_at, cut_in, dependency_in, digest_in, entry_at, field_at, head_at, if_lower, is_above, is_itself, is_number, last_of, line_at, line_in, name_in, path_in, run_at, size_in}
@@ -31,7 +31,7 @@ pub line_taken : (p : Place) (x : Text × Place) → line_at p ≡ Ok x → (p.l
 unfolding line_at
 line_taken p x e = line_in_taken p.passed p.lines x e
 
--- a line that begins with a word is the word and what stands behind it
+-- a line that begins with a word is the word followed by the rest
 pub begun : (word line : Text) → begins_with word line ≡ true → line ≡ word ++ drop (length word) line
 begun word line e =
     let same : word ≡ take (length word) line = (bytes_eq-Decides word (take (length word) line)).0 e in
@@ -114,7 +114,7 @@ dependency_parts n text d e =
 regroup : (word path name digest : Text) → word ++ (path ++ 32 ∷ (name ++ 32 ∷ digest)) ≡ word ++ path ++ 32 ∷ [] ++ name ++ 32 ∷ [] ++ digest
 regroup word path name digest = sym (simp append_assoc)
 
--- what holds of a dependency that was read
+-- what holds of a dependency that was parsed
 pub record IsRead (d : Dep) : Type 0 where
   pub path : IsPath d.path
   pub name : IsName d.name
@@ -208,7 +208,7 @@ size_taken total n text v e =
     not_false true e = refl
     not_false false e = absurd cc
 
--- what holds of a head that was read, behind such names and such a total
+-- what holds of a head that was parsed, after these names and this total
 pub record IsHead (names : List Text) (before : ℕ) (h : Head) : Type 0 where
   pub name : is_next_name names h.name ≡ true
   pub digest : decode_sized (encode_lower h.digest) 32 ≡ Ok h.digest
@@ -260,7 +260,7 @@ entry_taken names total p h q e =
           )
     ]
 
--- ---- where no more stands
+-- ---- the end of repeated lines
 
 pub built_stops : (deps : List Dep) (p q : Place) → built_at deps p ≡ Ok (None, q) → p.lines ≡ q.lines
 unfolding built_at

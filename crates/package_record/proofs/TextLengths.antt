@@ -1,11 +1,11 @@
--- How long the texts of builds are, part by part.
+-- The lengths of the texts of builds, part by part.
 use Rattle.std.proofs.Common.{◌≡◌, ◌<◌, ◌≤◌, ◌+◌, ℕ, zero, suc, List, [], ◌∷◌, ◌++◌, flat_map, get_or, length, map, take, sym, ap, ◌∙◌, arith}
 use Rattle.std.proofs.lemmas.List.{length-append, map-append, take_more}
 use Rattle.package_record.specs.Build.{records_text}
 use Rattle.package_record.specs.Content.{Content, NamedFile, record_text}
 use Rattle.package_record.proofs.BuildTexts.{text_push}
 
--- the first records' texts are no longer than those of all
+-- the texts of the first records are not longer than those of all
 pub part_within : (cs : List Content) (n : ℕ)
     → length (records_text (take n cs)) ≤ length (records_text cs)
 part_within [] zero = omega arith
@@ -61,7 +61,7 @@ one_more_file fs i f lt here =
     (take_more fs i f lt ∙ ap (λ (g : NamedFile). take i fs ++ g ∷ []) (sym here))
     ∙ files_push (take i fs) f
 
--- the same of what stands for files
+-- likewise, with a view of the items as files
 pub some_within : {X : Type 0} (v : X → NamedFile) (xs : List X) (n : ℕ)
     → length (flat_map (λ (g : NamedFile). g.bytes) (map v (take n xs)))
     ≤ length (flat_map (λ (g : NamedFile). g.bytes) (map v xs))

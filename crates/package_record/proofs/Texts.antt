@@ -10,12 +10,12 @@ pub ended-append : (xs ys : List Text) → ended (xs ++ ys) ≡ ended xs ++ ende
 unfolding ended
 ended-append xs ys = flat_map-append (λ line. line ++ 10 ∷ []) xs ys
 
--- lines behind lines
+-- lines after lines
 pub ended_more : (old mid new : Text) (xs ys : List Text) → mid ≡ old ++ ended xs → new ≡ mid ++ ended ys → new ≡ old ++ ended (xs ++ ys)
 ended_more old mid new xs ys e f =
     f ∙ ap (λ (t : Text). t ++ ended ys) e ∙ append_assoc old (ended xs) (ended ys) ∙ ap (λ (t : Text). old ++ t) (sym (ended-append xs ys))
 
--- nothing behind
+-- no lines
 pub ended_none : (old : Text) → old ≡ old ++ ended []
 unfolding ended
 ended_none old = sym (append-nil old)
@@ -40,7 +40,7 @@ ended_next_lines v f old mid new xs i x lt e before lines =
     (sym (ap (λ ys. flat_map f (map v ys)) (taken_more xs i x lt e) ∙ ap (flat_map f) (map-append v (take i xs) (x ∷ []))
     ∙ flat_map-append f (map v (take i xs)) (v x ∷ []) ∙ ap (λ (ls : List Text). flat_map f (map v (take i xs)) ++ ls) (append-nil (f (v x)))))
 
--- the lines of one more item, which is seen as it is
+-- the lines of one more item, without a view
 pub ended_next_seen : {X : Type 0} (f : X → List Text) (old mid new : Text) (xs : List X) (i : ℕ) (x : X) → i < length xs → x ≡ get_or xs i x
     → mid ≡ old ++ ended (flat_map f (take i xs)) → new ≡ mid ++ ended (f x) → new ≡ old ++ ended (flat_map f (take (i + 1) xs))
 ended_next_seen f old mid new xs i x lt e before lines =

@@ -1,6 +1,6 @@
--- The unit that the records of a build are of.
+-- The unit of the records of a build.
 use Rattle.std.proofs.Common.{◌≡◌, ◌≢◌, ◌≤◌, List, [], ◌∷◌, length, get_or, refl, ap, arith}
-use Rattle.pkgpath.specs.PkgPath.{without_subpackage}
+use Rattle.claims.specs.PkgPath.{without_subpackage}
 use Rattle.package_record.specs.Build.{AreAlike, unit_path}
 use Rattle.package_record.specs.Content.{Content}
 

@@ -1,4 +1,4 @@
--- What is read is spelled so.
+-- What is parsed is its text.
 use Rattle.std.proofs.Common.{◌≡◌, ℕ, zero, suc, ◌+◌, ◌-◌, ◌<◌, ◌≤◌, true, cond, ltb, List, [], ◌∷◌, ◌++◌, length, take, drop, map, Ok, Err, refl, sym, ap, subst, ◌∙◌, append_assoc, arith}
 use Rattle.std.specs.List.{flat_map, join_with_byte}
 use Rattle.std.proofs.lemmas.Bool.{ltb-false}
@@ -20,7 +20,7 @@ pub join_behind : (l : Text) (ls : List Text) → 0 < length ls → join_with_by
 join_behind l [] some = absurd (omega arith)
 join_behind l (m ∷ ls) some = refl
 
--- the header's lines, the empty line, and what is left
+-- the header's lines, the empty line, and the rest
 join_ended : (hs qs : List Text) → 0 < length qs → join_with_byte 10 (hs ++ ([] ∷ qs)) ≡ ended hs ++ 10 ∷ join_with_byte 10 qs
 unfolding ended
 join_ended [] qs some = join_behind [] qs some
@@ -33,7 +33,7 @@ join_ended (h ∷ hs) qs some =
 abbrev header_of_parts : Header → List Text
 header_of_parts h = lines_of h.front ++ map built_line h.built ++ map run_line h.run ++ flat_map head_lines h.heads
 
--- what was read of the header
+-- what holds of a header that was parsed
 record IsHeader (h : Header) : Type 0 where
   front : IsFront h.front
   built : AreDeps h.built
@@ -66,7 +66,7 @@ header_taken text x e =
     grouped : (a b c d e : List Text) → a ++ (b ++ (c ++ (d ++ e))) ≡ (((a ++ b) ++ c) ++ d) ++ e
     grouped a b c d e = sym (simp append_assoc)
 
--- what the parts say: all that a record's value needs but for its length
+-- all that makes the parts a record, except for its length
 record Says (h : Header) (bytes : Text) (c : Content) (rest : Text) : Type 0 where
   text : ended (header_of_parts h) ++ 10 ∷ bytes ≡ record_text c ++ rest
   size : length bytes ≡ total_of h + length rest
@@ -117,7 +117,7 @@ pub empty_is : (text : Text) → is_empty text ≡ true → text ≡ []
 empty_is [] e = refl
 empty_is (b ∷ text) e = absurd cc
 
--- what is read as a whole is spelled so
+-- a text that is parsed as a whole is that of the record
 pub whole_taken : (text : Text) (c : Content) → whole_of text ≡ Ok c → IsRecord c × (text ≡ record_text c)
 unfolding whole_of
 whole_taken text c e =
@@ -132,7 +132,7 @@ whole_taken text c e =
     let whole : IsRecord f.0.0 × (text ≡ record_text f.0.0) = (says.fits (omega (arith, ap length spelled, short)), spelled) in
     subst (λ (c : Content). IsRecord c × (text ≡ record_text c)) (ok_is f.0.0 c t.1) whole
 
--- what is read at the front is spelled so
+-- a text that is parsed at the front begins with that of the record
 pub first_taken : (text : Text) (x : Content × Text) → first_of text ≡ Ok x → IsRecord x.0 × (text ≡ record_text x.0 ++ x.1)
 unfolding first_of
 first_taken text x e =
@@ -145,7 +145,7 @@ first_taken text x e =
     let long : length text ≡ length (ended (header_of_parts b.0.0)) + suc (length b.0.1) = ap length header.0 ∙ length-append (ended (header_of_parts b.0.0)) (10 ∷ b.0.1) in
     (says.fits (omega (arith, ap length spelled, length-append (record_text x.0) x.1, short, long, says.size)), spelled)
 
--- the front of a text, by how long the rest is
+-- the front of a text, given the length of the rest
 pub front_cut : (text front rest : Text) (n : ℕ) → text ≡ front ++ rest → n ≡ length text - length rest → (n ≡ length front) × (take n text ≡ front) × (drop n text ≡ rest)
 front_cut text front rest n e size =
     let len : length front ≡ n = omega (arith, ap length e, length-append front rest, size) in

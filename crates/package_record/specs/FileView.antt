@@ -1,4 +1,4 @@
--- What a contract sees of a file.
+-- How contracts see a file.
 use Rattle.package_record.specs.Content.{NamedFile}
 use Rattle.package_record.specs.declared.file.File.{File}
 

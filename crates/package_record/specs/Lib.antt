@@ -9,3 +9,5 @@ pub mod Reading
 pub mod Refusals
 pub mod Views
 pub mod inside
+pub use Rattle.claims.specs.PkgName
+pub use Rattle.claims.specs.PkgPath

@@ -1,4 +1,4 @@
--- Reading from left to right, with the first fault that is met.
+-- Parsing a record from left to right, up to the first fault.
 use Rattle.std.specs.Prelude.{◌+◌, ◌-◌, ℕ, zero, suc, Bool, true, false, ◌&&◌, ◌||◌, ◌==◌, not, nat_le, nat_lt, List, [], ◌∷◌, ◌++◌, length, take, drop, map, sum_by, codes, slice_get, option_map, Option, Some, None, Result, Ok, Err, if◌then◌else◌}
 use Rattle.std.specs.Char.{is_ascii_digit}
 use Rattle.std.specs.List.{after_first, before_first, join_with_byte, list_all, position_or_len}
@@ -9,9 +9,9 @@ use Rattle.hex.specs.Hex.{decode_sized, encode_lower}
 use Rattle.sha2.specs.Sha256.{sha256}
 use Rattle.faults.specs.Bytes.{Text, begins_with, blank, dot, is_empty, line_feed}
 use Rattle.faults.specs.Pieces.{pieces_at, text_cmp}
-use Rattle.pkgname.specs.PkgName.{name_of}
-use Rattle.pkgpath.specs.PkgPath.{path_of}
-use Rattle.agreement.specs.declared.claim.Claim.{Claim}
+use Rattle.claims.specs.PkgName.{name_of}
+use Rattle.claims.specs.PkgPath.{path_of}
+use Rattle.claims.specs.declared.claim.Claim.{Claim}
 use Rattle.claims.specs.Claim.{greatest_round}
 use Rattle.claims.specs.declared.deps.Dep.{Dep}
 use Rattle.package_record.specs.Content.{Content, NamedFile, greatest_host, is_next_name, most_bytes}
@@ -19,7 +19,7 @@ use Rattle.package_record.specs.declared.RecordFault.{RecordFault}
 use Rattle.package_record.specs.declared.RecordFault.TheVariants.{BadLine, Truncated, Trailing, DigestDiffers, BadFileName, TooLarge}
 
 infixl 10 ◌>>=◌
--- a fault ends the reading; else it goes on with what was read
+-- parsing ends at a fault, and else goes on with the result
 abbrev pub ◌>>=◌ :
     {A B : Type 0} → Result A RecordFault → (A → Result B RecordFault) → Result B RecordFault
 (Ok x) >>= f = f x
@@ -27,14 +27,13 @@ abbrev pub ◌>>=◌ :
 
 -- ---- lines
 
--- where a reader is: how many lines it has passed, and the lines from there on, each but the last
--- ended by LF
+-- the place of a parser: the number of lines that it has passed, and the rest of the lines, all but
+-- the last ended by LF
 pub record Place : Type 0 where
   pub passed : ℕ
   pub lines : List Text
 
--- the first of these lines, behind n others, and the place after it; a line without its LF is cut
--- off
+-- the first of these lines, after n others, and the place after it; without its LF it is truncated
 abbrev pub line_in : ℕ → List Text → Result (Text × Place) RecordFault
 line_in n [] = Err Truncated
 line_in n (l ∷ []) = Err Truncated
@@ -44,7 +43,7 @@ line_in n (l ∷ m ∷ ms) = Ok (l, record { passed = n + 1; lines = m ∷ ms })
 unfoldable pub line_at : Place → Result (Text × Place) RecordFault
 line_at p = line_in p.passed p.lines
 
--- what belongs to the word that begins the line
+-- the rest of the line after this word, which has to begin it
 unfoldable pub field_at : Text → Place → Result (Text × Place) RecordFault
 field_at word p = do
   line ← line_at p
@@ -52,35 +51,35 @@ field_at word p = do
       then Ok (drop (length word) line.0, line.1)
       else Err (BadLine line.1.passed)
 
--- ---- fields of the n-th line
+-- ---- fields of line n
 
--- what stands before the first such byte, and behind it
+-- the text before the first such byte, and the text after it
 unfoldable pub cut_in : ℕ → ℕ → Text → Result (Text × Text) RecordFault
 cut_in byte n text =
     if nat_lt (position_or_len (λ b. b == byte) text) (length text)
     then Ok (before_first (λ b. b == byte) text, after_first (λ b. b == byte) text)
     else Err (BadLine n)
 
--- the text is the one that is written for what it spells
+-- whether the text is the canonical form of its value
 abbrev pub is_itself : {F : Type 0} → Result Text F → Text → Bool
 is_itself (Ok t) text = bytes_eq t text
 is_itself (Err e) text = false
 
--- the package path that the text is, in its canonical form
+-- the text as a package path, which has to be in its canonical form
 unfoldable pub path_in : ℕ → Text → Result Text RecordFault
 path_in n text = if is_itself (path_of text) text then Ok text else Err (BadLine n)
 
--- the package name that the text is
+-- the text as a package name
 unfoldable pub name_in : ℕ → Text → Result Text RecordFault
 name_in n text = if is_itself (name_of text) text then Ok text else Err (BadLine n)
 
--- digits, and no zero before others
+-- digits, without a leading zero
 abbrev pub is_number : Text → Bool
 is_number text =
     list_all is_ascii_digit text && not (is_empty text)
     && (length text == 1 || not (begins_with (codes "0") text))
 
--- the number from the least to the greatest that the text is
+-- the text as a number in this range
 unfoldable pub number_in : ℕ → ℕ → ℕ → Text → Result ℕ RecordFault
 number_in least greatest n text =
     if is_number text && nat_le least (digits_value 10 text)
@@ -88,47 +87,47 @@ number_in least greatest n text =
     then Ok (digits_value 10 text)
     else Err (BadLine n)
 
--- the digest that was decoded, where the text is how it is written in lower case
+-- the decoded digest, if the text is its lower-case form
 abbrev pub if_lower :
     {F : Type 0} → ℕ → Text → Result (List ℕ) F → Result (List ℕ) RecordFault
 if_lower n text (Ok digest) =
     if bytes_eq (encode_lower digest) text then Ok digest else Err (BadLine n)
 if_lower n text (Err e) = Err (BadLine n)
 
--- the 32 bytes that are written so
+-- the 32 bytes that the text encodes
 unfoldable pub digest_in : ℕ → Text → Result (List ℕ) RecordFault
 digest_in n text = if_lower n text (decode_sized text 32)
 
 -- ---- the first five lines
 
--- the place behind the line of the format's version
+-- the place after the line with the version of the format
 unfoldable pub version_at : Place → Result Place RecordFault
 version_at p = do
   line ← line_at p
   if bytes_eq line.0 (codes "@dpb 1") then Ok line.1 else Err (BadLine line.1.passed)
 
--- the package's name, and the place behind its line
+-- the package's name, and the place after its line
 unfoldable pub name_at : Place → Result (Text × Place) RecordFault
 name_at p = do
   field ← field_at (codes "@name ") p
   name ← name_in field.1.passed field.0
   Ok (name, field.1)
 
--- the package's path, and the place behind its line
+-- the package's path, and the place after its line
 unfoldable pub path_at : Place → Result (Text × Place) RecordFault
 path_at p = do
   field ← field_at (codes "@comment pkgpath=") p
   path ← path_in field.1.passed field.0
   Ok (path, field.1)
 
--- the host that built the package, and the place behind its line
+-- the host that built the package, and the place after its line
 unfoldable pub host_at : Place → Result (ℕ × Place) RecordFault
 host_at p = do
   field ← field_at (codes "@host ") p
   host ← number_in 0 greatest_host field.1.passed field.0
   Ok (host, field.1)
 
--- the claim that the text is: its round, a dot, and its member
+-- the text as a claim: its round, a dot, and its member
 unfoldable pub claim_in : ℕ → Text → Result Claim RecordFault
 claim_in n text = do
   parts ← cut_in dot n text
@@ -136,21 +135,21 @@ claim_in n text = do
   member ← number_in 0 8 n parts.1
   Ok (record { round = round; member = member })
 
--- the claim of the build, and the place behind its line
+-- the claim of the build, and the place after its line
 unfoldable pub claim_at : Place → Result (Claim × Place) RecordFault
 claim_at p = do
   field ← field_at (codes "@claim ") p
   claim ← claim_in field.1.passed field.0
   Ok (claim, field.1)
 
--- what the first five lines say
+-- the contents of the first five lines
 pub record Front : Type 0 where
   pub name : Text
   pub path : Text
   pub host : ℕ
   pub claim : Claim
 
--- what the first five lines say, and the place behind them
+-- the contents of the first five lines, and the place after them
 unfoldable pub front_at : Place → Result (Front × Place) RecordFault
 front_at p = do
   names ← version_at p
@@ -160,30 +159,30 @@ front_at p = do
   claim ← claim_at host.1
   Ok (record { name = name.0; path = path.0; host = host.0; claim = claim.0 }, claim.1)
 
--- ---- the lines that may stand any number of times
+-- ---- repeated lines
 
--- one more was read, behind which reading goes on; or there was none, and it ends
+-- goes on after one more element; ends if there was none
 abbrev pub go_on :
     {X : Type 0} → (List X → Place → Result (List X × Place) RecordFault)
     → List X → Option X × Place → Result (List X × Place) RecordFault
 go_on more front (None, p) = Ok (front, p)
 go_on more front (Some x, p) = more (front ++ x ∷ []) p
 
--- Reads while there is one more, at most so often. What may come next depends on what was read
--- before, which is in front.
+-- Parses elements while there is one more, at most this number of them. What may follow depends on
+-- the previous ones, which are in front.
 unfoldable pub many_at :
     {X : Type 0} → (List X → Place → Result (Option X × Place) RecordFault)
     → ℕ → List X → Place → Result (List X × Place) RecordFault
 many_at one zero front p = Err Truncated
 many_at one (suc k) front p = one front p >>= go_on (many_at one k) front
 
--- all of them; there are no more than lines
+-- all elements; there are not more of them than lines
 abbrev pub all_at :
     {X : Type 0} → (List X → Place → Result (Option X × Place) RecordFault)
     → Place → Result (List X × Place) RecordFault
 all_at one p = many_at one (length p.lines) [] p
 
--- the path is above the one before it, where there is one
+-- whether the path is above the previous one, if there is one
 abbrev pub is_above : Option Text → Text → Bool
 is_above None path = true
 is_above (Some before) path = is_lt (text_cmp before path)
@@ -192,7 +191,7 @@ is_above (Some before) path = is_lt (text_cmp before path)
 abbrev pub last_of : {X : Type 0} → List X → Option X
 last_of xs = slice_get xs (length xs - 1)
 
--- the dependency that the text is: its path, name and digest, with one blank between two of them
+-- the text as a dependency: a path, a name and a digest, separated by single spaces
 unfoldable pub dependency_in : ℕ → Text → Result Dep RecordFault
 dependency_in n text = do
   path ← cut_in blank n text
@@ -202,7 +201,7 @@ dependency_in n text = do
   digest ← digest_in n name.1
   Ok (record { path = p; name = m; digest = digest })
 
--- a line of `@built`, if one stands there
+-- an `@built` line, if there is one here
 unfoldable pub built_at : List Dep → Place → Result (Option Dep × Place) RecordFault
 built_at deps p = do
   line ← line_at p
@@ -213,7 +212,7 @@ built_at deps p = do
         else Err (BadLine line.1.passed))
       else Ok (None, p)
 
--- a line of `@run`, if one stands there
+-- a `@run` line, if there is one here
 unfoldable pub run_at : List Text → Place → Result (Option Text × Place) RecordFault
 run_at paths p = do
   line ← line_at p
@@ -222,7 +221,7 @@ run_at paths p = do
     if is_above (last_of paths) path then Ok (Some path, line.1) else Err (BadLine line.1.passed))
       else Ok (None, p)
 
--- what the lines of a file say
+-- the contents of the lines of a file
 pub record Head : Type 0 where
   pub name : Text
   pub digest : List ℕ
@@ -230,14 +229,14 @@ pub record Head : Type 0 where
   -- the number of the line with the digest
   pub line : ℕ
 
--- the size, behind files of this total
+-- the size of a file, after files of this total size
 unfoldable pub size_in : ℕ → ℕ → Text → Result ℕ RecordFault
 size_in total n text =
     if not (is_number text) then Err (BadLine n)
     else if nat_lt most_bytes (total + digits_value 10 text) then Err TooLarge
     else Ok (digits_value 10 text)
 
--- the digest and the size of the file with this name, behind files of this total
+-- the digest and the size of the file with this name, after files of this total size
 unfoldable pub head_at : ℕ → Text → Place → Result (Option Head × Place) RecordFault
 head_at total name p = do
   sha ← field_at (codes "@sha ") p
@@ -246,8 +245,8 @@ head_at total name p = do
   n ← size_in total size.1.passed size.0
   Ok (Some (record { name = name; digest = digest; size = n; line = sha.1.passed }), size.1)
 
--- the lines of a file behind files of these names and this total, or the empty line, which ends the
--- header
+-- the lines of a file, after files with these names and this total size, or the empty line that
+-- ends the header
 unfoldable pub entry_at : List Text → ℕ → Place → Result (Option Head × Place) RecordFault
 entry_at names total p = do
   line ← line_at p
@@ -256,20 +255,20 @@ entry_at names total p = do
       else if is_next_name names line.0 then head_at total line.0 line.1
       else Err (BadFileName line.1.passed)
 
--- the lines of one more file behind these, or the empty line that ends the header
+-- the lines of one more file after these, or the empty line that ends the header
 abbrev pub file_at : List Head → Place → Result (Option Head × Place) RecordFault
 file_at heads p = entry_at (map (λ h. h.name) heads) (sum_by (λ h. h.size) heads) p
 
 -- ---- the whole
 
--- what the header says
+-- the contents of the header
 pub record Header : Type 0 where
   pub front : Front
   pub built : List Dep
   pub run : List Text
   pub heads : List Head
 
--- the header, and the bytes behind it
+-- the header, and the bytes after it
 unfoldable pub header_of : Text → Result (Header × Text) RecordFault
 header_of text = do
   front ← front_at (record { passed = 0; lines = pieces_at line_feed text })
@@ -285,7 +284,7 @@ header_of text = do
 abbrev pub file_from : Head → Text → NamedFile
 file_from h bytes = record { name = h.name; bytes = take h.size bytes }
 
--- the files of these heads, from the front of the bytes, and the bytes behind them
+-- the files of these heads, from the front of the bytes, and the bytes after them
 unfoldable pub files_in :
     List NamedFile → List Head → Text → Result (List NamedFile × Text) RecordFault
 files_in front [] bytes = Ok (front, bytes)
@@ -294,11 +293,11 @@ files_in front (h ∷ hs) bytes =
     then files_in (front ++ file_from h bytes ∷ []) hs (drop h.size bytes)
     else Err (DigestDiffers h.line)
 
--- how many bytes the files have in all, by the header
+-- the total size of the files, by the header
 abbrev pub total_of : Header → ℕ
 total_of h = sum_by (λ head. head.size) h.heads
 
--- what the record with this header and these files says
+-- the contents of the record with this header and these files
 abbrev pub content_with : Header → List NamedFile → Content
 content_with h files = record {
   path = h.front.path;
@@ -310,7 +309,7 @@ content_with h files = record {
   files = files;
 }
 
--- what the header and the bytes behind it say, and the bytes that are left
+-- the contents of the record with this header and the bytes after it, and the bytes that are left
 unfoldable pub content_of_parts : Header → Text → Result (Content × Text) RecordFault
 content_of_parts h bytes =
     if nat_lt (length bytes) (total_of h) then Err Truncated
@@ -327,7 +326,7 @@ whole_of text =
       content ← content_of_parts header.0 header.1
       if is_empty content.1 then Ok content.0 else Err Trailing)
 
--- the record at the front of the text, and the text behind it
+-- the record at the front of the text, and the text after it
 unfoldable pub first_of : Text → Result (Content × Text) RecordFault
 first_of text = do
   header ← header_of text

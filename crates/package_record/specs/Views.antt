@@ -1,8 +1,8 @@
--- What a contract sees of a record's fields.
+-- How contracts see the fields of a record.
 use Rattle.package_record.specs.Content.{Content}
 use Rattle.package_record.specs.declared.fields.Fields.{Fields}
 
--- what the record with these fields says
+-- the contents of the record with these fields
 abbrev pub content_of : Fields → Content
 content_of r = record {
   path = r.path;

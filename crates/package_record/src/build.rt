@@ -1,4 +1,4 @@
-//! A build, which contracts see as what its records say.
+//! A build. Contracts see it as the contents of its records.
 ghost use Rattle.std.specs.Prelude.{◌≡◌, ◌≤◌, ◌<◌, ◌++◌, All, Ok, drop, length, map, take, true, IfOk, OnOk, OnErr};
 ghost use Rattle.std.specs.Bool.{Decides};
 ghost use Rattle.faults.specs.Answers.{IsRightUnless, map_ok, unless_fault};
@@ -12,15 +12,13 @@ ghost use Rattle.package_record.specs.Packages.{AreOfOneGroup, contents_of};
 use crate::equality::are_same_records;
 use crate::gathering::{gather, test_all_names};
 use crate::{Files, Record, RecordFault, build_writing, several};
-use claims::{Claim, Deps, Texts};
+use claims::{Claim, Deps, PkgName, PkgPath, Texts};
 use faults::Memory;
-use pkgname::PkgName;
-use pkgpath::PkgPath;
 use std::alloc::Global;
 use std::marker::Model;
 use std::rc::Rc;
 
-/// What a build made of one path.
+/// One package of a build.
 #[derive(Drop)]
 pub struct Package {
     pub path: PkgPath,
@@ -30,16 +28,16 @@ pub struct Package {
     pub files: Files,
 }
 
-/// The records of all packages that one build made, ascending by path: from one to 16,384, of one
-/// group, with one host, one claim, and one list of what they were built on. The text of a whole
-/// build is within `LIMIT`; a build of one is its record's text. Copies share what they say, which
-/// nothing changes.
+/// The records of all packages of one build, ascending by path. There are 1 to 16,384 of them, all
+/// of one group, with one host, one claim, and one list of what they were built on. The text of a
+/// whole build has at most `LIMIT` bytes; that of a build of one package is its record's text.
+/// Copies share the contents, which never change.
 #[derive(Drop)]
 pub struct Build {
     made: Rc<Made>,
 }
 
-/// What a build made.
+/// The contents of a build.
 #[derive(Drop)]
 struct Made {
     /// The name of the unit that was built.
@@ -61,9 +59,9 @@ impl Model for Build {
 }
 
 impl Build {
-    /// The build that says this. File names come first, package by package: `BadFileName` counts
-    /// the files of the first package that has a bad name, or one that was used before in it. A
-    /// text that would be over `LIMIT` is `TooLarge`.
+    /// Makes a build. File names are tested first, package by package: `BadFileName` has the number
+    /// of the file within the first package with a bad or repeated name. A text longer than `LIMIT`
+    /// is `TooLarge`.
     pub fn make(
         alloc: Global,
         host: u16,
@@ -97,19 +95,19 @@ impl Build {
         Ok(Build { made })
     }
 
-    /// The build whose text this is. A text that begins with the line `@dpb 2` is of two or more
-    /// packages, and any other is read by `Record::parse`. It is tested in this order:
+    /// The build with this text. A text that begins with the line `@dpb 2` is of two or more
+    /// packages; any other is parsed by `Record::parse`. The tests are, in this order:
     ///
-    /// 1. The length of the whole text, which is `TooLarge` over `LIMIT`.
-    /// 2. The line `@packages N`, N from 2 to 16,384: without its LF it is `Truncated`, and else
-    ///    `BadLine` at 2 where it is another.
-    /// 3. Each record, as `Record::read_first` does, and right behind it what it shares with the
-    ///    first one: a path that does not ascend or is of another group is `BadLine` at 3, another
-    ///    host at 4, another claim at 5, another list of what it was built on at 6. Places are
+    /// 1. The length of the whole text: `TooLarge` if it exceeds `LIMIT`.
+    /// 2. The line `@packages N`, N from 2 to 16,384: `Truncated` without its LF, and else
+    ///    `BadLine` at 2 if it differs.
+    /// 3. Each record, as by `Record::read_first`, and after each what it has to share with the
+    ///    first one: a path that doesn't ascend or is of another group is `BadLine` at 3, another
+    ///    host at 4, another claim at 5, another list of what it was built on at 6. Lines are
     ///    counted from the record's own first line.
-    /// 4. The end: bytes behind the build are `Trailing`.
+    /// 4. The end: bytes after the build are `Trailing`.
     pub fn parse(alloc: Global, text: &[u8]) -> Result<Build, RecordFault>
-        // What is read is spelled so.
+        // The text is that of the result.
         ensures text { IfOk result (λ b. IsBuild b × (text.now ≡ build_text b)) }
         // Which build or fault it is.
         ensures exact { IsRightUnless RecordFault.Memory result (whole_build_of text.now) }
@@ -118,10 +116,10 @@ impl Build {
         Ok(Build::of(records)?)
     }
 
-    /// The build at the front of the text, and how many bytes its own text takes. Anything may
-    /// stand behind it. A text of one package is read by `Record::read_first`. Of two or more the
-    /// tests are those of `parse`, without the last, and with another one of the length: that of
-    /// what was read so far, right after each record.
+    /// The build at the front of the text, and the length of its text in bytes. Anything may follow
+    /// it. A text of one package is parsed by `Record::read_first`. For two or more the tests are
+    /// those of `parse` without the last; the length is that of what was parsed so far, and is
+    /// tested after each record.
     pub fn read_first(alloc: Global, text: &[u8]) -> Result<(Build, usize), RecordFault>
         ensures text { IfOk result (λ first.
             IsBuild first.0 × (take first.1 text.now ≡ build_text first.0)) }
@@ -136,7 +134,7 @@ impl Build {
         Ok((build, length))
     }
 
-    /// Appends the text, or nothing.
+    /// Appends the text, or nothing if memory runs out.
     pub fn write_to(&self, out: &mut Vec<u8>) -> Result<(), Memory>
         ensures ok { OnOk result (out.new.items ≡ out.old.items ++ build_text self.now) }
         ensures err { OnErr result (out.new.items ≡ out.old.items) }
@@ -147,7 +145,7 @@ impl Build {
         Ok(())
     }
 
-    /// The lines that stand before the records' texts in the text of two or more; none of one.
+    /// The lines before the records' texts, if there are two or more records; else nothing.
     pub fn lines(&self) -> Result<Vec<u8>, Memory>
         ensures { IfOk result (λ lines. lines.items ≡ lines_before (length self.now)) }
     {
@@ -156,8 +154,8 @@ impl Build {
         Ok(lines)
     }
 
-    /// The name of the unit that was built: its only package's path, or the path without subpackage
-    /// that its packages share.
+    /// The name of the unit that was built: the path of its only package, or the path without
+    /// subpackage that its packages share.
     pub fn unit_path(&self) -> &PkgPath
         ensures path { result.now ≡ unit_path self.now }
         ensures build { IsBuild self.now }
@@ -173,15 +171,15 @@ impl Build {
         self.made.records.as_slice()
     }
 
-    /// Whether both say the same.
+    /// Whether the two are equal.
     pub fn is_same(&self, other: &Build) -> bool
         ensures { Decides result (self.now ≡ other.now) }
     {
         are_same_records(self.made.records.as_slice(), other.made.records.as_slice())
     }
 
-    /// An equal build, with the texts that are had of the packages that it names, unless another
-    /// build shares what this one says.
+    /// An equal build. Unless its contents are shared with another build, it uses the given texts
+    /// of the packages that it names.
     pub fn with_texts<T: Texts>(self, texts: &T) -> Result<Build, Memory>
         ensures { IfOk result (λ b. b ≡ self) }
     {
@@ -191,7 +189,7 @@ impl Build {
         }
     }
 
-    /// An equal build, which shares what it says with this one.
+    /// An equal build, which shares its contents with this one.
     pub fn copy(&self) -> Result<Build, Memory>
         ensures { IfOk result (λ b. b ≡ self.now) }
     {
@@ -200,7 +198,7 @@ impl Build {
     }
 }
 
-/// Equal records, with the texts that are had of the packages that they name.
+/// Equal records, which use the given texts of the packages that they name.
 fn records_with_texts<T: Texts>(records: Vec<Record>, texts: &T) -> Result<Vec<Record>, Memory>
     ensures { IfOk result (λ same. same.items ≡ records.items) }
 {

@@ -8,7 +8,7 @@ use faults::Memory;
 use itoa::Buffer;
 use std::alloc::Global;
 
-/// Appends the lines that stand before so many records: none before one.
+/// Appends the lines before this number of records: none before a single one.
 pub fn put_lines(out: &mut Vec<u8>, count: usize) -> Result<(), Memory>
     ensures { OnOk result (out.new.items ≡ out.old.items ++ lines_before count) }
 {

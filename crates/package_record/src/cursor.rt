@@ -1,11 +1,11 @@
-//! A place in a text, and the line that stands there.
+//! A place in a text, and the line there.
 ghost use Rattle.std.specs.Prelude.{◌≡◌, ◌+◌, ◌<◌, ◌^◌, length};
 
 use crate::RecordFault;
 use crate::fault::ReadError;
 use faults::split_once;
 
-/// What is left of a text, and how many lines were passed.
+/// The rest of a text, and the number of lines passed.
 #[derive(Clone, Copy)]
 pub struct Cursor<'a> {
     pub rest: &'a [u8],
@@ -18,7 +18,7 @@ impl<'a> Cursor<'a> {
     ghost use Rattle.package_record.specs.inside.Given.{Gives};
     ghost use Rattle.package_record.specs.Reading.{field_at, line_at};
 
-    /// The line without its LF, and the cursor behind it.
+    /// The line without its LF, and the cursor after it.
     pub fn line(self) -> Result<(&'a [u8], Cursor<'a>), ReadError>
         ensures { Gives (λ x. (x.0.now, cursor_view x.1)) result
             (line_at (cursor_view self.entry)) }
@@ -32,7 +32,7 @@ impl<'a> Cursor<'a> {
         }
     }
 
-    /// What belongs to the word that begins the line, and the cursor behind the line.
+    /// The rest of the line after the word that has to begin it, and the cursor after the line.
     #[tactic(auto, unfolding(crate::specs::Reading::field_at))]
     pub fn field(self, word: &[u8]) -> Result<(&'a [u8], Cursor<'a>), ReadError>
         ensures { Gives (λ x. (x.0.now, cursor_view x.1)) result
@@ -45,7 +45,7 @@ impl<'a> Cursor<'a> {
         }
     }
 
-    /// The line that was passed last is not what stands there.
+    /// The fault that the last line passed is not the expected one.
     pub fn bad_line(self) -> ReadError
         ensures { result ≡ ReadError.Fault (RecordFault.BadLine self.entry.passed) }
     {

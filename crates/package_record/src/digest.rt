@@ -1,4 +1,4 @@
-//! Digests, and the digits that write them.
+//! Digests, and their hexadecimal digits.
 ghost use Rattle.std.specs.Prelude.{◌≡◌, ◌≢◌, ◌<◌, ℕ, IfNone, IfSome, List, Ok, length, slice_index};
 ghost use Rattle.hex.specs.Hex.{IsBytes, decode_sized, encode_lower, lower_digits};
 
@@ -15,7 +15,7 @@ fn digit_value(digit: u8) -> u8
     }
 }
 
-/// The digest that the text writes in 64 lower-case hexadecimal digits, if it does.
+/// The digest that the text encodes, if it is 64 lower-case hexadecimal digits.
 pub fn digest_of(text: &[u8]) -> Option<[u8; 32]>
     ensures some { IfSome result
         (λ digest. (decode_sized text.now 32 ≡ Ok digest) × (encode_lower digest ≡ text.now)) }

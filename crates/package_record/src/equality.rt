@@ -1,4 +1,4 @@
-//! Equal records.
+//! Equality of records.
 ghost use Rattle.std.specs.Prelude.{◌≡◌, map};
 ghost use Rattle.std.specs.Cmp.Lexicographic.{pointwise};
 ghost use Rattle.package_record.specs.FileView.{file_view};
@@ -40,7 +40,7 @@ fn is_same_record(one: &Record, other: &Record) -> bool
         && are_same_files(one.files(), other.files())
 }
 
-/// Whether these say the same, record by record.
+/// Whether the records are equal, pairwise.
 pub fn are_same_records(records: &[Record], others: &[Record]) -> bool
     ensures { result ≡ pointwise is_same_content records.now others.now }
 {

@@ -1,4 +1,4 @@
-//! Why a text could not be read.
+//! Why a text could not be parsed.
 ghost use Rattle.std.specs.Prelude.{◌≡◌};
 ghost use Rattle.package_record.specs.inside.Given.{refusal_of};
 ghost use Rattle.package_record.specs.declared.fault.ReadError.TheVariants.{Memory as out_of_memory};
@@ -6,7 +6,7 @@ ghost use Rattle.package_record.specs.declared.fault.ReadError.TheVariants.{Memo
 use crate::RecordFault;
 use faults::WantOfMemory;
 
-/// Memory ran out, or the text has this fault.
+/// Out of memory, or this fault of the text.
 #[derive(Debug, Drop)]
 pub enum ReadError {
     Memory,

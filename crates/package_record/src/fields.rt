@@ -1,15 +1,13 @@
-//! What a record says, field by field.
+//! The contents of a record, field by field.
 ghost use Rattle.std.specs.Prelude.{◌≡◌, IfOk};
 ghost use Rattle.package_record.specs.Views.{content_of};
 
 use crate::hashed_files::HashedFiles;
-use claims::{Claim, Deps, Texts};
+use claims::{Claim, Deps, PkgName, PkgPath, Texts};
 use faults::Memory;
-use pkgname::PkgName;
-use pkgpath::PkgPath;
 use std::alloc::Global;
 
-/// What a record says, as it was handed in or read.
+/// The contents of a record, as given or parsed.
 #[derive(Drop)]
 pub struct Fields {
     pub path: PkgPath,
@@ -22,7 +20,7 @@ pub struct Fields {
 }
 
 impl Fields {
-    /// The same, with the texts that are had of the packages that are named.
+    /// Equal fields, which use the given texts of the packages that they name.
     pub(crate) fn with_texts<T: Texts>(self, texts: &T) -> Result<Fields, Memory>
         ensures { IfOk result (λ fields. content_of fields ≡ content_of self) }
     {
@@ -41,7 +39,7 @@ impl Fields {
     }
 }
 
-/// Equal paths, with the texts that are had of them, and no room to spare.
+/// Equal paths, which use the given texts, without spare capacity.
 fn paths_with_texts<T: Texts>(paths: Vec<PkgPath>, texts: &T) -> Result<Vec<PkgPath>, Memory>
     ensures { IfOk result (λ same. same.items ≡ paths.items) }
 {

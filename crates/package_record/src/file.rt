@@ -3,8 +3,8 @@ ghost use Rattle.std.specs.Prelude.{◌≡◌, IfOk};
 
 use faults::Memory;
 
-/// A file by its name, in which slashes stand between components, and its bytes. Which names are
-/// good is tested where a record is made.
+/// A file: its name, with slashes between components, and its bytes. The name is tested when a
+/// record is made.
 #[derive(Drop)]
 pub struct File {
     pub name: Vec<u8>,
@@ -22,7 +22,7 @@ impl File {
         Ok(File { name, bytes })
     }
 
-    /// The same file, with no room to spare.
+    /// The same file, without spare capacity.
     pub(crate) fn tight(self) -> File
         ensures name { result.name.items ≡ self.name.items }
         ensures bytes { result.bytes.items ≡ self.bytes.items }

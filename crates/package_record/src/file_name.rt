@@ -1,4 +1,4 @@
-//! Which names a file may have.
+//! Valid names of files.
 ghost use Rattle.std.specs.Prelude.{◌≡◌, nat_le, ◌&&◌};
 ghost use Rattle.std.specs.List.{list_all};
 ghost use Rattle.faults.specs.Bytes.{slash};
@@ -26,8 +26,8 @@ fn is_printable(name: &[u8]) -> bool
     name.iter().all(|byte| *byte >= b' ' && *byte <= b'~')
 }
 
-/// The name has 1 to `LONGEST_FILE_NAME` printable bytes, does not begin with `@`, and has
-/// components between its slashes, none of them empty, `.` or `..`.
+/// Whether the name is valid: it has 1 to `LONGEST_FILE_NAME` printable bytes, doesn't begin with
+/// `@`, and its components between slashes are neither empty nor `.` nor `..`.
 pub fn is_file_name(name: &[u8]) -> bool
     ensures { result ≡ is_file_name name.now }
 {

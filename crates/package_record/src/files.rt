@@ -7,8 +7,8 @@ use faults::Memory;
 use std::alloc::Global;
 use std::marker::Model;
 
-/// A list of files, which contracts see as their names and bytes. Which names are good is tested
-/// where a record is made.
+/// A list of files. Contracts see their names and bytes. The names are tested when a record is
+/// made.
 #[derive(Drop)]
 pub struct Files {
     items: Vec<File>,
@@ -25,7 +25,7 @@ impl Model for Files {
 }
 
 impl Files {
-    /// The list of these, in their order.
+    /// The list of these files, in their order.
     pub fn new(items: Vec<File>) -> Files
         ensures { result ≡ map file_view items.items }
     {

@@ -1,4 +1,4 @@
-//! The records of the packages that a build is made of.
+//! The records of the packages of a build.
 ghost use Rattle.std.specs.Prelude.{◌≡◌, ◌+◌, All, IfOk, OnOk, length, true};
 ghost use Rattle.faults.specs.Answers.{IsRightUnless, first_given, map_ok, unless_fault};
 ghost use Rattle.claims.specs.Claim.{IsClaim};
@@ -19,7 +19,7 @@ use claims::{Claim, Deps};
 use faults::Memory;
 use std::alloc::Global;
 
-/// The files of each package have good names, and each name stands once in it.
+/// Tests that the files of each package have valid names, and that none occurs twice in a package.
 pub fn test_all_names(alloc: Global, packages: &[Package]) -> Result<(), RecordFault>
     ensures names { OnOk result
         (All (λ (p : Package). AreFileNames (names_of p.files)) packages.now) }
@@ -71,7 +71,8 @@ fn record_of(
     sized(alloc, fields)
 }
 
-/// So many bytes are not too many behind the lines that so many records need.
+/// Tests that this number of bytes, and the lines before this number of records, don't exceed the
+/// maximum length.
 fn test_length(alloc: Global, count: usize, bytes: usize) -> Result<(), RecordFault>
     ensures { IsRightUnless RecordFault.Memory result
         (unless_fault (too_large (length (lines_before count) + bytes)) tt) }
@@ -84,7 +85,7 @@ fn test_length(alloc: Global, count: usize, bytes: usize) -> Result<(), RecordFa
     Ok(())
 }
 
-/// The records of all packages, if their text as a whole is not too long.
+/// The records of all packages, if their text as a whole doesn't exceed the maximum length.
 pub fn gather(
     alloc: Global,
     host: u16,

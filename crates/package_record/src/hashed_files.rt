@@ -10,7 +10,7 @@ use sha2::{Digest, Sha256};
 use std::alloc::Global;
 use std::marker::Model;
 
-/// Files, each with the SHA-256 (FIPS 180-4) of its bytes, so that it is computed once, however
+/// Files, each with the SHA-256 (FIPS 180-4) of its bytes. The digest is computed once, however
 /// often the text of a record is written. Contracts see the files' names and bytes.
 #[derive(Drop)]
 pub struct HashedFiles {
@@ -32,7 +32,7 @@ impl Model for HashedFiles {
 }
 
 impl HashedFiles {
-    /// No files, with room for so many.
+    /// No files, with capacity for this number.
     pub fn with_capacity(alloc: Global, count: usize) -> Result<HashedFiles, Memory>
         ensures { IfOk result (λ files. files ≡ []) }
     {
@@ -41,7 +41,7 @@ impl HashedFiles {
         Ok(HashedFiles { files, digests })
     }
 
-    /// These files. They are kept with no room to spare, however much they came with.
+    /// These files, without spare capacity.
     pub fn of(alloc: Global, files: Vec<File>) -> Result<HashedFiles, Memory>
         ensures { IfOk result (λ hashed. hashed ≡ map file_view files.items) }
     {
@@ -53,7 +53,7 @@ impl HashedFiles {
         Ok(hashed)
     }
 
-    /// One more file, whose bytes have this digest.
+    /// Adds a file whose bytes have this digest.
     pub fn push(&mut self, file: File, digest: [u8; 32]) -> Result<(), Memory>
         requires { digest ≡ sha256 file.bytes.items }
         ensures { OnOk result (self.new ≡ self.old ++ file_view file ∷ []) }
@@ -80,7 +80,7 @@ impl HashedFiles {
         &self.digests[index]
     }
 
-    /// Where their memory comes from.
+    /// The allocator of the files.
     pub fn allocator(&self) -> Global {
         *self.files.allocator()
     }

@@ -15,13 +15,11 @@ use crate::number::size;
 use crate::reading::{
     claim_line, dependency, digest, host_line, name_line, path, path_line, version_line,
 };
-use claims::{Claim, Dep};
+use claims::{Claim, Dep, PkgName, PkgPath};
 use indexmap::IndexSet;
-use pkgname::PkgName;
-use pkgpath::PkgPath;
 use std::alloc::Global;
 
-/// What the first five lines say.
+/// The contents of the first five lines.
 #[derive(Drop)]
 pub struct Front {
     pub name: PkgName,
@@ -30,7 +28,7 @@ pub struct Front {
     pub claim: Claim,
 }
 
-/// What the lines of a file say, and the number of the line with the digest.
+/// The contents of the lines of a file, and the number of the line with the digest.
 #[derive(Clone, Copy)]
 pub struct Head<'a> {
     pub name: &'a [u8],
@@ -192,7 +190,7 @@ fn run_lines<'a>(alloc: Global, start: Cursor<'a>) -> Result<(Vec<PkgPath>, Curs
     }
 }
 
-/// The lines of files, up to the empty line, and the total of the sizes.
+/// The contents of the files' lines, up to the empty line, and the total of the sizes.
 #[derive(Drop)]
 pub struct Heads<'a> {
     pub items: Vec<Head<'a>>,
@@ -225,7 +223,7 @@ fn file_lines<'a>(alloc: Global, start: Cursor<'a>) -> Result<(Heads<'a>, Cursor
     }
 }
 
-/// What a header says.
+/// The contents of a header.
 #[derive(Drop)]
 pub struct Header<'a> {
     pub front: Front,
@@ -234,7 +232,7 @@ pub struct Header<'a> {
     pub heads: Heads<'a>,
 }
 
-/// The header, and the bytes behind it.
+/// The header, and the bytes after it.
 #[tactic(auto, unfolding(crate::specs::Reading::header_of))]
 pub fn read_header<'a>(alloc: Global, text: &'a [u8]) -> Result<(Header<'a>, &'a [u8]), ReadError>
     ensures header { Gives (λ x. (header_view x.0, x.1.now)) result (header_of text.entry.now) }

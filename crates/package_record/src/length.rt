@@ -1,4 +1,4 @@
-//! How long the text of a build is.
+//! The length of the text of a build.
 ghost use Rattle.std.specs.Prelude.{◌≡◌, ◌≤◌, IfOk, length};
 ghost use Rattle.package_record.specs.Build.{build_text};
 ghost use Rattle.package_record.specs.Content.{most_bytes, record_text};
@@ -7,12 +7,12 @@ use crate::{Build, Record};
 use faults::Memory;
 
 impl Build {
-    /// The length of its text, of which no byte of a file is copied.
+    /// The length of its text. Computed without copying the bytes of files.
     pub fn text_len(&self) -> Result<usize, Memory>
         ensures len { IfOk result (λ len. len ≡ length (build_text self.now)) }
         ensures few { IfOk result (λ len. len ≤ most_bytes) }
     {
-        // Its path says that it is a build, whose text is within the limit.
+        // Calling this gives the proof that it is a valid build, whose text is within the limit.
         let _path = self.unit_path();
         let lines = self.lines()?;
         let mut len = lines.len();

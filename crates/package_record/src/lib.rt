@@ -46,28 +46,29 @@ pub use crate::laws::{
     record_text_is_read_at_the_front, what_is_made_is_a_build, what_is_read_is_a_build,
 };
 pub use crate::package::{Record, make};
+pub use claims::PkgPath;
 
-/// Hosts are numbered from 0 up to this.
+/// The greatest number of a host; the least is 0.
 pub const GREATEST_HOST: u16 = 65_535;
 
-/// The most bytes that the name of a file may have.
+/// The maximum length of a file's name in bytes.
 pub const LONGEST_FILE_NAME: usize = 255;
 
-/// The most bytes that the text of a record, and of a whole build, may have.
+/// The maximum length in bytes of the text of a record, and of a whole build.
 pub const LIMIT: usize = 4_194_304;
 
-/// The most packages that one build may make.
+/// The maximum number of packages of a build.
 pub const MOST_PACKAGES: usize = 16_384;
 
-/// Why a text is read as no record, or why none can be made: want of memory, or else the first
-/// fault. A number is that of a line, counted from 1; within a build of two or more, that of a line
-/// of its record, but for `BadLine(2)` of the line that says how many there are; where a record is
-/// made, that of `BadFileName` is the number of a file of its package, counted from 1.
+/// Why a text could not be parsed as a record, or why a record could not be made: out of memory, or
+/// else the first fault. A number is that of a line, counted from 1. In a build of two or more it
+/// counts lines of the record, except for `BadLine(2)` of the line with the number of records. When
+/// a record or a build is made, the number of `BadFileName` counts the files of the package from 1.
 #[derive(Clone, Copy, Debug, PartialEq, Eq, Error)]
 pub enum RecordFault {
     #[error("out of memory")]
     Memory,
-    #[error("line {0} is not what stands there in a record")]
+    #[error("line {0} is not what a record has at that place")]
     BadLine(u64),
     #[error("the record is cut short")]
     Truncated,
@@ -75,7 +76,7 @@ pub enum RecordFault {
     Trailing,
     #[error("the file of line {0} has another digest")]
     DigestDiffers(u64),
-    #[error("the file name {0} is bad, or stands twice")]
+    #[error("file name {0} is invalid or a duplicate")]
     BadFileName(u64),
     #[error("the record is too large")]
     TooLarge,

@@ -1,15 +1,14 @@
-//! Whether a text may begin with that of a record which is known. All that is asked here costs no
-//! more than what came: a walk ends where the text does, and nothing is written.
+//! Whether a text may begin with that of a known record. These tests cost no more than the text is
+//! long: they end where the text does, and write nothing.
 
 use crate::room::{BUILT, LEAST_FILE, RUN};
 use crate::{File, Record};
-use claims::Dep;
-use pkgpath::PkgPath;
+use claims::{Dep, PkgPath};
 
-/// The most digits that a number has.
+/// The maximum number of digits of a number.
 const DIGITS: usize = 20;
 
-/// What is behind these parts, where the text begins with one after the other.
+/// The text after these parts, if it begins with them, one after the other.
 fn behind_all<'a>(parts: &[&[u8]], text: &'a [u8]) -> Option<&'a [u8]> {
     let mut rest = text;
     for part in parts {
@@ -18,7 +17,7 @@ fn behind_all<'a>(parts: &[&[u8]], text: &'a [u8]) -> Option<&'a [u8]> {
     Some(rest)
 }
 
-/// What is behind the digits that the text begins with, where they write the number.
+/// The text after the digits that it begins with, if they are those of the number.
 fn behind_number(number: u64, text: &[u8]) -> Option<&[u8]> {
     let mut value: u64 = 0;
     let mut rest = text;
@@ -40,8 +39,8 @@ fn behind_number(number: u64, text: &[u8]) -> Option<&[u8]> {
     }
 }
 
-/// What is behind the record's first five lines, where the text begins with them. An honest build
-/// of another host differs in the fourth, one under another claim in the fifth.
+/// The text after the record's first five lines, if it begins with them. An honest build by another
+/// host differs in the fourth, one under another claim in the fifth.
 fn behind_front<'a>(own: &Record, text: &'a [u8]) -> Option<&'a [u8]> {
     let names = [
         b"@dpb 1\n@name ".as_slice(),
@@ -60,7 +59,7 @@ fn behind_front<'a>(own: &Record, text: &'a [u8]) -> Option<&'a [u8]> {
     rest.strip_prefix(b"\n")
 }
 
-/// What is left of so much room behind the lines of these dependencies.
+/// What is left of this room after the lines of these dependencies.
 fn behind_built(room: usize, deps: &[Dep]) -> Option<usize> {
     let mut left = room;
     for dep in deps {
@@ -72,7 +71,7 @@ fn behind_built(room: usize, deps: &[Dep]) -> Option<usize> {
     Some(left)
 }
 
-/// What is left of so much room behind the lines of these paths to run.
+/// What is left of this room after the lines of these paths to run.
 fn behind_run(room: usize, paths: &[PkgPath]) -> Option<usize> {
     let mut left = room;
     for path in paths {
@@ -81,7 +80,7 @@ fn behind_run(room: usize, paths: &[PkgPath]) -> Option<usize> {
     Some(left)
 }
 
-/// What is left of so much room at most behind the lines and the bytes of these files.
+/// The most that is left of this room after the lines and the bytes of these files.
 fn behind_files(room: usize, files: &[File]) -> Option<usize> {
     let mut left = room;
     for file in files {
@@ -93,17 +92,17 @@ fn behind_files(room: usize, files: &[File]) -> Option<usize> {
     Some(left)
 }
 
-/// What is left of so much room at most behind all that the record has behind its first five lines,
-/// but for the empty line.
+/// The most that is left of this room after all that follows the record's first five lines, except
+/// for the empty line.
 fn behind_others(room: usize, own: &Record) -> Option<usize> {
     let left = behind_built(room, own.built())?;
     let left = behind_run(left, own.run())?;
     behind_files(left, own.files())
 }
 
-/// Whether the text may begin with the record's: it has its first five lines, and behind them no
-/// fewer bytes than all others take at least. Where it says yes, the record's header is no longer
-/// than the text: the size of a file has no more digits than the file has bytes, or one.
+/// Whether the text may begin with the record's: it has its first five lines, and at least as many
+/// bytes after them as the rest of the record takes. If so, the record's header is not longer than
+/// the text, because a file's size has no more digits than the file has bytes, or one digit.
 pub fn may_begin_with(own: &Record, text: &[u8]) -> bool {
     let Some(rest) = behind_front(own, text) else {
         return false;

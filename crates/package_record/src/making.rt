@@ -1,4 +1,4 @@
-//! What a record is made of is tested first.
+//! Tests of what a record is made of.
 ghost use Rattle.std.specs.Prelude.{◌≡◌, IfOk, OnOk, length, map, min};
 ghost use Rattle.faults.specs.Answers.{IsRightUnless, unless_fault};
 ghost use Rattle.package_record.specs.Content.{AreFileNames, HasNames, names_of, record_text};
@@ -14,7 +14,7 @@ use faults::Memory;
 use indexmap::IndexSet;
 use std::alloc::Global;
 
-/// Each name is one that a file may have, and stands once.
+/// Tests that each name is a valid file name, and that none occurs twice.
 pub fn test_names(alloc: Global, files: &[File]) -> Result<(), RecordFault>
     ensures names { OnOk result (AreFileNames (names_of (map file_view files.now))) }
     ensures exact { IsRightUnless RecordFault.Memory result
@@ -29,7 +29,7 @@ pub fn test_names(alloc: Global, files: &[File]) -> Result<(), RecordFault>
     Ok(())
 }
 
-/// How many bytes the text has, or the most that a number can say.
+/// The length of the text in bytes, or the maximum of `usize` if it is longer.
 pub fn text_length(alloc: Global, fields: &Fields) -> Result<usize, Memory>
     ensures length { IfOk result (λ n.
         n ≡ min (length (record_text (content_of fields.now))) 18446744073709551615) }

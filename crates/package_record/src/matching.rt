@@ -1,4 +1,4 @@
-//! Whether a text is that of a build which is known.
+//! Whether a text is that of a known build.
 ghost use Rattle.std.specs.Prelude.{◌≡◌, ◌++◌, IfSome, IsTrue};
 ghost use Rattle.package_record.specs.Build.{build_text};
 ghost use Rattle.package_record.specs.Content.{record_text};
@@ -7,8 +7,8 @@ use crate::likely::may_begin_with;
 use crate::{Build, Record};
 
 impl Build {
-    /// Whether this text is its own: then nothing of it has to be read. It says no, too, where it
-    /// has no memory to tell.
+    /// Whether this text is the build's own, so that it need not be parsed. Also false if memory
+    /// runs out.
     pub fn is_text(&self, text: &[u8]) -> bool
         ensures { IsTrue result → text.now ≡ build_text self.now }
     {
@@ -19,15 +19,15 @@ impl Build {
     }
 }
 
-/// What is behind these bytes, where the text begins with them.
+/// The text after these bytes, if it begins with them.
 fn behind<'a>(front: &[u8], text: &'a [u8]) -> Option<&'a [u8]>
     ensures { IfSome result (λ rest. text.entry.now ≡ front.now ++ rest.now) }
 {
     text.strip_prefix(front)
 }
 
-/// What is behind the record's text, where the text begins with that. Without memory it says no.
-/// The record's header is written only where the text is no shorter than that.
+/// The text after the record's text, if it begins with that. None also if memory runs out. The
+/// record's header is written only if the text is at least as long.
 fn behind_record<'a>(own: &Record, text: &'a [u8]) -> Option<&'a [u8]>
     ensures { IfSome result (λ rest. text.entry.now ≡ record_text own.now ++ rest.now) }
 {
@@ -44,7 +44,7 @@ fn behind_record<'a>(own: &Record, text: &'a [u8]) -> Option<&'a [u8]>
     Some(rest)
 }
 
-/// What is behind the build's text, where the text begins with that. Without memory it says no.
+/// The text after the build's text, if it begins with that. None also if memory runs out.
 fn behind_build<'a>(build: &Build, text: &'a [u8]) -> Option<&'a [u8]>
     ensures { IfSome result (λ rest. text.entry.now ≡ build_text build.now ++ rest.now) }
 {

@@ -8,7 +8,7 @@ use crate::file_name::is_file_name;
 use faults::Memory;
 use indexmap::IndexSet;
 
-/// Enters a name, and answers if it is new.
+/// Inserts a name, and returns whether it is new.
 fn enter<'a>(names: &mut IndexSet<&'a [u8]>, name: &'a [u8]) -> Result<bool, Memory>
     ensures is_new { IfOk result (λ is_new.
         is_new ≡ not (is_among (names_in names.old) name.entry.now)) }
@@ -18,7 +18,7 @@ fn enter<'a>(names: &mut IndexSet<&'a [u8]>, name: &'a [u8]) -> Result<bool, Mem
     Ok(names.insert(name)?)
 }
 
-/// Enters a name, if a file may have it behind those entered before, and answers if so.
+/// Inserts a name, if a file may have it after those inserted before, and returns whether so.
 pub fn admit<'a>(names: &mut IndexSet<&'a [u8]>, name: &'a [u8]) -> Result<bool, Memory>
     ensures is_next { IfOk result (λ is_next.
         is_next ≡ is_next_name (names_in names.old) name.entry.now) }

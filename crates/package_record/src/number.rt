@@ -8,7 +8,7 @@ ghost use Rattle.package_record.specs.Reading.{is_number, number_in, size_in};
 use crate::fault::ReadError;
 use crate::{LIMIT, RecordFault};
 
-/// The number that the text writes, or the greatest of 64 bits if it is above that.
+/// The number that the text encodes, or the greatest of 64 bits if it is above that.
 fn number(text: &[u8]) -> Option<u64>
     ensures { MatchOption result
         (is_number text.now ≡ false)
@@ -30,7 +30,7 @@ fn number(text: &[u8]) -> Option<u64>
     Some(number)
 }
 
-/// A number from `least` to `greatest`, in this line.
+/// The text of this line as a number from `least` to `greatest`.
 #[tactic(auto, unfolding(crate::specs::Reading::number_in))]
 pub fn number_within(least: u64, greatest: u64, line: u64, text: &[u8]) -> Result<u64, ReadError>
     requires { greatest < 18446744073709551615 }
@@ -43,7 +43,7 @@ pub fn number_within(least: u64, greatest: u64, line: u64, text: &[u8]) -> Resul
     }
 }
 
-/// The size of a file, in this line, behind files of this total.
+/// The text of this line as the size of a file, after files of this total size.
 #[tactic(auto, unfolding(crate::specs::Reading::size_in))]
 pub fn size(total: usize, line: u64, text: &[u8]) -> Result<usize, ReadError>
     requires { total ≤ most_bytes }

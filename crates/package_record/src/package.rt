@@ -1,4 +1,4 @@
-//! A record, which contracts see as what it says.
+//! A record. Contracts see its contents.
 ghost use Rattle.std.specs.Prelude.{◌≡◌, ◌++◌, drop, length, map, take, true, IfOk, OnOk, OnErr};
 ghost use Rattle.sha2.specs.Sha256.{sha256};
 ghost use Rattle.faults.specs.Answers.{IsRightUnless, map_ok, unless_fault};
@@ -14,19 +14,18 @@ use crate::fields::Fields;
 use crate::hashed_files::HashedFiles;
 use crate::making::{test_names, text_length};
 use crate::{File, LIMIT, RecordFault, parsing, writing};
-use claims::{Claim, Dep, Deps, Texts};
+use claims::{Claim, Dep, Deps, PkgName, PkgPath, Texts};
 use faults::Memory;
-use pkgname::PkgName;
-use pkgpath::PkgPath;
 use sha2::{Digest, Sha256};
 use std::alloc::Global;
 use std::marker::Model;
 use std::rc::Rc;
 
-/// A package that was built: its path and name, the host that built it and under which claim, the
+/// A package that was built: its path and name, the host that built it and the claim, the
 /// dependencies that it was built on, the paths that it needs to run, and its files. The text of a
-/// record is within `LIMIT`; its dependencies and its paths to run ascend, each path once; its
-/// files' names are good, and each stands once. Copies share what they say, which nothing changes.
+/// record has at most `LIMIT` bytes. The dependencies ascend by path and the paths to run ascend,
+/// without repetition. The files have valid names, without repetition. Copies share the contents,
+/// which never change.
 #[derive(Drop)]
 pub struct Record {
     fields: Rc<Fields>,
@@ -43,9 +42,8 @@ impl Model for Record {
     ghost invariant = { λ r. IsRecord (content_of r.fields.value) };
 }
 
-/// The record that says this. File names come first: `BadFileName` counts the files from 1, and
-/// names the one whose name is bad or was used before. A text that would be over `LIMIT` is
-/// `TooLarge`.
+/// Makes a record. File names are tested first: `BadFileName` has the number, counted from 1, of
+/// the first file with a bad or repeated name. A text longer than `LIMIT` is `TooLarge`.
 pub fn make(
     alloc: Global,
     path: PkgPath,
@@ -84,7 +82,7 @@ pub fn make(
     Ok(record)
 }
 
-/// The record with these fields, whose files' names are good, and the length of its text.
+/// The record with these fields, whose files have valid names, and the length of its text.
 pub fn sized(alloc: Global, fields: Fields) -> Result<(Record, usize), RecordFault>
     requires claim { IsClaim fields.claim }
     requires built { AreInOrder fields.built }
@@ -114,19 +112,19 @@ impl Record {
         Ok(Record { fields })
     }
 
-    /// The record whose text this is. It is tested in this order:
+    /// The record with this text. The tests are, in this order:
     ///
-    /// 1. The length of the whole text, which is `TooLarge` over `LIMIT`.
-    /// 2. The header, line by line: a line without its LF is `Truncated`; where a file's name may
-    ///    stand, a bad one, or one that stood before, is `BadFileName`, unless it begins with `@`;
-    ///    a size with which the files so far are over `LIMIT` is `TooLarge`; all else that does not
-    ///    fit is `BadLine`.
-    /// 3. The files' bytes: fewer than the sizes say are `Truncated`.
-    /// 4. The digests of the files: `DigestDiffers` has the `@sha` line of the first file that has
-    ///    another one.
-    /// 5. The end: bytes behind the record are `Trailing`.
+    /// 1. The length of the whole text: `TooLarge` if it exceeds `LIMIT`.
+    /// 2. The header, line by line. A line without its LF is `Truncated`. A line in the place of a
+    ///    file's name that is bad or repeated is `BadFileName`, unless it begins with `@`. A size
+    ///    that brings the total of the files above `LIMIT` is `TooLarge`. Any other mismatch is
+    ///    `BadLine`.
+    /// 3. The bytes of the files: fewer than the sizes require are `Truncated`.
+    /// 4. The digests of the files: `DigestDiffers` has the `@sha` line of the first file whose
+    ///    bytes have another one.
+    /// 5. The end: bytes after the record are `Trailing`.
     pub fn parse(alloc: Global, text: &[u8]) -> Result<Record, RecordFault>
-        // What is read is spelled so.
+        // The text is that of the result.
         ensures text { IfOk result (λ r. IsRecord r × (text.now ≡ record_text r)) }
         // Which record or fault it is.
         ensures exact { IsRightUnless RecordFault.Memory result (whole_of text.now) }
@@ -135,10 +133,9 @@ impl Record {
         Ok(Record::of(alloc, fields)?)
     }
 
-    /// The record at the front of the text, and how many bytes its own text takes. Anything may
-    /// stand behind it. The tests are those of `parse`, without the last, and with another one of
-    /// the length: it comes right after the header, and is `TooLarge` where the header and the
-    /// sizes together are over `LIMIT`.
+    /// The record at the front of the text, and the length of its text in bytes. Anything may
+    /// follow it. The tests are those of `parse` without the last; the length is tested after the
+    /// header, and is `TooLarge` if the header and the sizes together exceed `LIMIT`.
     pub fn read_first(alloc: Global, text: &[u8]) -> Result<(Record, usize), RecordFault>
         ensures text { IfOk result (λ first.
             IsRecord first.0 × (take first.1 text.now ≡ record_text first.0)) }
@@ -152,14 +149,14 @@ impl Record {
         Ok((Record::of(alloc, fields)?, length))
     }
 
-    /// Appends the text; where memory ends, a part of it.
+    /// Appends the text, or a part of it if memory runs out.
     pub(crate) fn put_text(&self, out: &mut Vec<u8>) -> Result<(), Memory>
         ensures { OnOk result (out.new.items ≡ out.old.items ++ record_text self.now) }
     {
         writing::put_text(out, &self.fields)
     }
 
-    /// Appends the text, or nothing.
+    /// Appends the text, or nothing if memory runs out.
     pub fn write_to(&self, out: &mut Vec<u8>) -> Result<(), Memory>
         ensures ok { OnOk result (out.new.items ≡ out.old.items ++ record_text self.now) }
         ensures err { OnErr result (out.new.items ≡ out.old.items) }
@@ -169,7 +166,8 @@ impl Record {
         Ok(())
     }
 
-    /// The header with the empty line at its end. In the text the files' bytes follow it.
+    /// The header with the empty line at its end. In the text of the record the bytes of the files
+    /// follow.
     pub fn header(&self) -> Result<Vec<u8>, Memory>
         ensures { IfOk result (λ text. text.items ≡ header_text self.now) }
     {
@@ -203,43 +201,43 @@ impl Record {
         &self.fields.name
     }
 
-    /// The host that built it.
+    /// The host that built the package.
     pub fn host(&self) -> u16
         ensures { result ≡ self.now.host }
     {
         self.fields.host
     }
 
-    /// The claim under which it was built.
+    /// The claim under which the package was built.
     pub fn claim(&self) -> Claim
         ensures { result ≡ self.now.claim }
     {
         self.fields.claim
     }
 
-    /// The packages that it was built on, as their signatures, ascending by path.
+    /// The signatures of the packages that it was built on, ascending by path.
     pub fn built(&self) -> &[Dep]
         ensures { result.now ≡ self.now.built }
     {
         self.fields.built.as_slice()
     }
 
-    /// The paths that it needs to run, ascending.
+    /// The paths that the package needs to run, ascending.
     pub fn run(&self) -> &[PkgPath]
         ensures { result.now ≡ self.now.run }
     {
         self.fields.run.as_slice()
     }
 
-    /// Its files, in the order in which they were handed in.
+    /// The files of the package, in the given order.
     pub fn files(&self) -> &[File]
         ensures { map file_view result.now ≡ self.now.files }
     {
         self.fields.files.as_slice()
     }
 
-    /// An equal record, with the texts that are had of the packages that it names, unless another
-    /// record shares what this one says.
+    /// An equal record. Unless its contents are shared with another record, it uses the given texts
+    /// of the packages that it names.
     pub(crate) fn with_texts<T: Texts>(self, texts: &T) -> Result<Record, Memory>
         ensures { IfOk result (λ r. r ≡ self) }
     {
@@ -250,7 +248,7 @@ impl Record {
         }
     }
 
-    /// An equal record, which shares what it says with this one.
+    /// An equal record, which shares its contents with this one.
     pub fn copy(&self) -> Result<Record, Memory>
         ensures { IfOk result (λ r. r ≡ self.now) }
     {

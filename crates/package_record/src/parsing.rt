@@ -1,4 +1,4 @@
-//! A text as a record.
+//! Parsing of a text as a record.
 ghost use Rattle.std.specs.Prelude.{◌≡◌, ◌≤◌, [], length, map, sum_by};
 ghost use Rattle.package_record.specs.inside.Given.{Gives};
 ghost use Rattle.package_record.specs.inside.Heads.{head_of, header_view};
@@ -15,7 +15,7 @@ use claims::Deps;
 use sha2::{Digest, Sha256};
 use std::alloc::Global;
 
-/// The files of these heads, one after the other, and the bytes behind them.
+/// The files of these heads, one after the other, and the bytes after them.
 fn files<'a>(
     alloc: Global,
     heads: &[Head<'_>],
@@ -73,7 +73,7 @@ fn fields<'a>(
     Ok((fields, rest))
 }
 
-/// What the whole text says.
+/// The contents of the record that is the whole text.
 #[tactic(auto, unfolding(crate::specs::Reading::whole_of))]
 pub fn whole(alloc: Global, text: &[u8]) -> Result<Fields, ReadError>
     ensures { Gives content_of result (whole_of text.now) }
@@ -89,7 +89,7 @@ pub fn whole(alloc: Global, text: &[u8]) -> Result<Fields, ReadError>
     Ok(fields)
 }
 
-/// What the record at the front says, and the text behind it.
+/// The contents of the record at the front, and the text after it.
 #[tactic(auto, unfolding(crate::specs::Reading::first_of))]
 pub fn first<'a>(alloc: Global, text: &'a [u8]) -> Result<(Fields, &'a [u8]), ReadError>
     ensures { Gives (λ x. (content_of x.0, x.1.now)) result (first_of text.entry.now) }

@@ -1,4 +1,4 @@
-//! The lines of a header, each read from the left.
+//! The lines of a header, each parsed from left to right.
 ghost use Rattle.std.specs.Prelude.{◌≡◌};
 ghost use Rattle.package_record.specs.inside.Cursor.{cursor_view};
 ghost use Rattle.package_record.specs.inside.Given.{Gives};
@@ -21,20 +21,18 @@ use crate::digest::digest_of;
 use crate::fault::ReadError;
 use crate::number::number_within;
 use crate::{GREATEST_HOST, RecordFault};
-use claims::{Claim, Dep, GREATEST_ROUND, MEMBERS};
+use claims::{Claim, Dep, GREATEST_ROUND, MEMBERS, NameFault, PathFault, PkgName, PkgPath};
 use faults::split_once;
-use pkgname::{NameFault, PkgName};
-use pkgpath::{PathFault, PkgPath};
 use std::alloc::Global;
 
-/// The line is not what stands there in a record.
+/// The fault that the line is not the one expected there.
 fn bad_line(line: u64) -> ReadError
     ensures { result ≡ ReadError.Fault (RecordFault.BadLine line) }
 {
     ReadError::Fault(RecordFault::BadLine(line))
 }
 
-/// The package path that the text is, in its canonical form.
+/// The text as a package path, which has to be in its canonical form.
 #[tactic(auto, unfolding(crate::specs::Reading::path_in))]
 pub fn path(alloc: Global, line: u64, text: &[u8]) -> Result<PkgPath, ReadError>
     ensures { Gives (λ path. path) result (path_in line text.now) }
@@ -46,7 +44,7 @@ pub fn path(alloc: Global, line: u64, text: &[u8]) -> Result<PkgPath, ReadError>
     }
 }
 
-/// The package name that the text is.
+/// The text as a package name.
 #[tactic(auto, unfolding(crate::specs::Reading::name_in))]
 fn name(alloc: Global, line: u64, text: &[u8]) -> Result<PkgName, ReadError>
     ensures { Gives (λ name. name) result (name_in line text.now) }
@@ -58,7 +56,7 @@ fn name(alloc: Global, line: u64, text: &[u8]) -> Result<PkgName, ReadError>
     }
 }
 
-/// The bytes that 64 lower-case hexadecimal digits write.
+/// The bytes that 64 lower-case hexadecimal digits encode.
 #[tactic(auto, unfolding(crate::specs::Reading::digest_in))]
 pub fn digest(line: u64, text: &[u8]) -> Result<[u8; 32], ReadError>
     ensures { Gives (λ digest. digest) result (digest_in line text.now) }
@@ -66,7 +64,7 @@ pub fn digest(line: u64, text: &[u8]) -> Result<[u8; 32], ReadError>
     digest_of(text).ok_or(bad_line(line))
 }
 
-/// What stands before the first such byte, and behind it.
+/// The text before the first such byte, and the text after it.
 #[tactic(auto, unfolding(crate::specs::Reading::cut_in))]
 fn cut<'a>(byte: u8, line: u64, text: &'a [u8]) -> Result<(&'a [u8], &'a [u8]), ReadError>
     ensures { Gives (λ x. (x.0.now, x.1.now)) result (cut_in byte line text.entry.now) }
@@ -77,7 +75,7 @@ fn cut<'a>(byte: u8, line: u64, text: &'a [u8]) -> Result<(&'a [u8], &'a [u8]), 
     }
 }
 
-/// A path, a name and a digest, with one blank between two of them.
+/// A path, a name and a digest, separated by single spaces.
 #[tactic(auto, unfolding(crate::specs::Reading::dependency_in))]
 pub fn dependency(alloc: Global, line: u64, text: &[u8]) -> Result<Dep, ReadError>
     ensures { Gives (λ dep. dep) result (dependency_in line text.now) }
@@ -132,7 +130,7 @@ pub fn host_line(place: Cursor<'_>) -> Result<(u16, Cursor<'_>), ReadError>
     Ok((host as u16, after))
 }
 
-/// A round and a member, with a dot between them.
+/// A round and a member, separated by a dot.
 #[tactic(auto, unfolding(crate::specs::Reading::claim_in))]
 fn claim(line: u64, text: &[u8]) -> Result<Claim, ReadError>
     ensures { Gives (λ claim. claim) result (claim_in line text.now) }

@@ -1,24 +1,24 @@
-//! How much room the text of a record takes, so that it is had at once and not piece by piece, and
-//! how many bytes its lines have besides their fields.
+//! How many bytes the text of a record takes, so that it can be allocated at once. Also how many
+//! bytes its lines have besides their fields.
 
 use crate::File;
 use crate::fields::Fields;
-use claims::Dep;
-use pkgpath::PkgPath;
+use claims::{Dep, PkgPath};
 
-/// The most bytes that the first five lines and the empty one have besides the name and the path.
+/// The maximum number of bytes of the first five lines and the empty line, without the name and the
+/// path.
 const FRONT: usize = 77;
 
-/// The bytes of a dependency's line besides its path and its name.
+/// The number of bytes of a dependency's line, without its path and name.
 pub const BUILT: usize = 74;
 
-/// The bytes of the line of a path to run besides the path.
+/// The number of bytes of the line of a path to run, without the path.
 pub const RUN: usize = 6;
 
-/// The most bytes that the three lines of a file have besides its name.
+/// The maximum number of bytes of the three lines of a file, without its name.
 const MOST_FILE: usize = 98;
 
-/// The fewest bytes that these lines have besides the name: those of a size of one digit.
+/// The minimum number of bytes of these lines, without the name: those with a size of one digit.
 pub const LEAST_FILE: usize = 79;
 
 fn built_room(deps: &[Dep]) -> usize {
@@ -60,7 +60,7 @@ fn bodies_room(files: &[File]) -> usize {
     room
 }
 
-/// Room for the header: as much as it takes, or a few bytes more.
+/// Capacity for the header: its length, or a few bytes more.
 pub fn header_room(fields: &Fields) -> usize {
     FRONT
         .saturating_add(fields.name.as_bytes().len())
@@ -70,7 +70,7 @@ pub fn header_room(fields: &Fields) -> usize {
         .saturating_add(lines_room(fields.files.as_slice()))
 }
 
-/// Room for the whole text: as much as it takes, or a few bytes more.
+/// Capacity for the whole text: its length, or a few bytes more.
 pub fn text_room(fields: &Fields) -> usize {
     header_room(fields).saturating_add(bodies_room(fields.files.as_slice()))
 }

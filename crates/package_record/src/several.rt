@@ -1,4 +1,4 @@
-//! A text as the records of a build.
+//! Parsing of a text as the records of a build.
 ghost use Rattle.std.specs.Prelude.{◌≡◌, ◌∷◌, [], IfOk};
 ghost use Rattle.faults.specs.Answers.{IsRightUnless, map_ok};
 ghost use Rattle.package_record.specs.BuildReading.{
@@ -21,7 +21,7 @@ use crate::{LIMIT, MOST_PACKAGES, Record, RecordFault};
 use faults::Memory;
 use std::alloc::Global;
 
-/// The first line says that the build is of two or more.
+/// Whether the first line is that of a build of two or more.
 #[tactic(auto, unfolding(crate::specs::Content::ended))]
 fn is_several(text: &[u8]) -> bool
     ensures { result ≡ is_several text.now }
@@ -29,7 +29,7 @@ fn is_several(text: &[u8]) -> bool
     text.starts_with(b"@dpb 2\n")
 }
 
-/// How many records follow the two lines, and the text behind these.
+/// The number of records, and the text after the two lines.
 #[tactic(auto, unfolding(crate::specs::BuildReading::packages_of))]
 fn packages(text: &[u8]) -> Result<(u64, &[u8]), ReadError>
     ensures { Gives (λ x. (x.0, x.1.now)) result (packages_of text.entry.now) }
@@ -44,8 +44,8 @@ fn packages(text: &[u8]) -> Result<(u64, &[u8]), ReadError>
     Ok((count, place.rest))
 }
 
-/// The record at the front of what is left of a text of this length, behind these, and the text
-/// behind it.
+/// The record at the front of the rest of a text of this length, after these records, and the text
+/// after it.
 fn next_record<'a>(
     alloc: Global,
     length: usize,
@@ -64,7 +64,8 @@ fn next_record<'a>(
     Ok((record, rest))
 }
 
-/// So many records at the front of what is left of a text of this length, and the text behind them.
+/// This number of records at the front of the rest of a text of this length, and the text after
+/// them.
 fn read_records<'a>(
     alloc: Global,
     length: usize,
@@ -108,7 +109,7 @@ fn whole_several(alloc: Global, text: &[u8]) -> Result<Vec<Record>, RecordFault>
     Ok(records)
 }
 
-/// The list of this record.
+/// The list of only this record.
 fn alone(alloc: Global, only: Record) -> Result<Vec<Record>, Memory>
     ensures { IfOk result (λ records. records.items ≡ only ∷ []) }
 {
@@ -129,7 +130,7 @@ pub fn whole(alloc: Global, text: &[u8]) -> Result<Vec<Record>, RecordFault>
     Ok(alone(alloc, record)?)
 }
 
-/// The records of the build at the front, and the text behind them.
+/// The records of the build at the front, and the text after them.
 pub fn first<'a>(alloc: Global, text: &'a [u8]) -> Result<(Vec<Record>, &'a [u8]), RecordFault>
     ensures { IsRightUnless RecordFault.Memory (map_ok (λ x. (x.0.items, x.1.now)) result)
         (first_build_of text.entry.now) }

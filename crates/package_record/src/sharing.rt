@@ -1,15 +1,14 @@
-//! What the records of one build share.
+//! What the records of one build have in common.
 ghost use Rattle.std.specs.Prelude.{◌≡◌, IfOk};
 ghost use Rattle.std.specs.Cmp.Lexicographic.{pointwise};
 ghost use Rattle.std.specs.Str.{bytes_eq};
 ghost use Rattle.faults.specs.Answers.{IsRightUnless, unless_fault};
-ghost use Rattle.pkgpath.specs.PkgPath.{without_subpackage};
+ghost use Rattle.claims.specs.PkgPath.{without_subpackage};
 ghost use Rattle.package_record.specs.BuildReading.{is_next_path, is_same_dep, next_fault, unlike_fault};
 
 use crate::{Record, RecordFault};
-use claims::Dep;
+use claims::{Dep, PkgPath};
 use faults::Memory;
-use pkgpath::PkgPath;
 
 fn is_same_dep(dep: &Dep, other: &Dep) -> bool
     ensures { result ≡ is_same_dep dep.now other.now }
@@ -17,7 +16,7 @@ fn is_same_dep(dep: &Dep, other: &Dep) -> bool
     dep.path == other.path && dep.name == other.name && dep.digest == other.digest
 }
 
-/// Whether these are the same, in the same order.
+/// Whether the lists are equal.
 pub fn are_same_deps(deps: &[Dep], others: &[Dep]) -> bool
     ensures { result ≡ pointwise is_same_dep deps.now others.now }
 {
@@ -41,7 +40,7 @@ fn is_of_group(path: &PkgPath, other: &PkgPath) -> Result<bool, Memory>
     Ok(group == other_group)
 }
 
-/// The path may stand behind those of these records, of which one is the first.
+/// Whether the path may follow those of these records, of which `first` is the first.
 fn is_next_path(records: &[Record], first: &Record, next: &Record) -> Result<bool, Memory>
     ensures { IfOk result (λ is_next. is_next ≡ is_next_path records.now first.now next.now) }
 {
@@ -74,7 +73,7 @@ fn is_alike(records: &[Record], first: &Record, next: &Record) -> Result<(), Rec
     Ok(())
 }
 
-/// The record may stand behind these in a build.
+/// Tests whether the record may follow these in a build.
 pub fn may_follow(records: &[Record], next: &Record) -> Result<(), RecordFault>
     ensures { IsRightUnless RecordFault.Memory result
         (unless_fault (next_fault records.now next.now) tt) }

@@ -2,8 +2,8 @@
 ghost use Rattle.std.specs.Prelude.{◌≡◌, ◌++◌, [], ◌∷◌, All, OnOk, IfOk, codes, decimal, flat_map, length, map};
 ghost use Rattle.hex.specs.Hex.{encode_lower};
 ghost use Rattle.sha2.specs.Sha256.{sha256};
-ghost use Rattle.pkgname.specs.PkgName.{IsName};
-ghost use Rattle.pkgpath.specs.PkgPath.{IsPath};
+ghost use Rattle.claims.specs.PkgName.{IsName};
+ghost use Rattle.claims.specs.PkgPath.{IsPath};
 ghost use Rattle.package_record.specs.Content.{HasNames, IsDep, built_line, claim_line, ended, file_lines, front_lines, header_text, name_lines, record_text, run_line};
 ghost use Rattle.package_record.specs.FileView.{file_view};
 ghost use Rattle.package_record.specs.Views.{content_of};
@@ -13,13 +13,12 @@ use crate::digest::digest_text;
 use crate::fields::Fields;
 use crate::hashed_files::HashedFiles;
 use crate::room::{header_room, text_room};
-use claims::{Claim, Dep};
+use claims::{Claim, Dep, PkgPath};
 use faults::Memory;
 use itoa::Buffer;
-use pkgpath::PkgPath;
 use std::alloc::Global;
 
-/// Appends a line that is made of these parts.
+/// Appends a line made of these parts.
 #[tactic(auto, unfolding(crate::specs::Content::ended))]
 fn put_line(out: &mut Vec<u8>, parts: &[&[u8]]) -> Result<(), Memory>
     ensures { OnOk result
@@ -32,14 +31,14 @@ fn put_line(out: &mut Vec<u8>, parts: &[&[u8]]) -> Result<(), Memory>
     Ok(())
 }
 
-/// Appends the line of a word and what belongs to it.
+/// Appends a line made of a word and its text.
 pub fn put_field(out: &mut Vec<u8>, word: &[u8], text: &[u8]) -> Result<(), Memory>
     ensures { OnOk result (out.new.items ≡ out.old.items ++ ended ((word.now ++ text.now) ∷ [])) }
 {
     put_line(out, &[word, text])
 }
 
-/// The lines that say what the package is.
+/// Appends the lines with the version of the format, and the package's name and path.
 fn put_names(out: &mut Vec<u8>, fields: &Fields) -> Result<(), Memory>
     ensures text { OnOk result
         (out.new.items ≡ out.old.items ++ ended (name_lines (content_of fields.now))) }

@@ -7,7 +7,7 @@ use Rattle.std.proofs.lemmas.List.Splits.{slice_split-cons_no, slice_split-cons_
 use Rattle.std.specs.List.{list_all, list_any, onto_first, slice_split}
 use Rattle.pkgname.specs.Inside.{behind_place}
 
--- a text has some piece
+-- a text has at least one piece
 pub some_piece : (p : ℕ → Bool) (text : List ℕ) → (first : List ℕ) × (others : List (List ℕ)) × (slice_split p text ≡ first ∷ others)
 some_piece p [] = ([], [], refl)
 some_piece p (x ∷ xs) = elim (cases_Bool (p x)) [
@@ -15,7 +15,7 @@ some_piece p (x ∷ xs) = elim (cases_Bool (p x)) [
   | inr fails ↦ let more = some_piece p xs in (x ∷ more.0, more.1, slice_split-cons_no p x xs fails ∙ ap (onto_first x) more.2)
 ]
 
--- the first piece of a text whose first byte is no separator begins with that byte
+-- the first piece of a text whose first byte is not a separator begins with that byte
 pub first_piece-cons : (p : ℕ → Bool) (x : ℕ) (text : List ℕ) → p x ≡ false → (first : List ℕ) × (others : List (List ℕ)) × (slice_split p (x ∷ text) ≡ (x ∷ first) ∷ others) × (slice_split p text ≡ first ∷ others)
 first_piece-cons p x text fails = let more = some_piece p text in (more.0, more.1, slice_split-cons_no p x text fails ∙ ap (onto_first x) more.2, more.2)
 
@@ -32,7 +32,7 @@ list_any-first_piece p (x ∷ text) piece others e = elim (cases_Bool (p x)) [
       rw (is, fails) (list_any-first_piece p text cut.0 cut.1 cut.3)
 ]
 
--- what holds of each byte of a text holds of each of its first piece
+-- a property of each byte of a text holds for those of its first piece
 pub list_all-first_piece : (p q : ℕ → Bool) (text piece : List ℕ) (others : List (List ℕ)) → slice_split p text ≡ piece ∷ others → list_all q text ≡ true → list_all q piece ≡ true
 list_all-first_piece p q [] piece others e h = let none : piece ≡ [] = cc in rw none refl
 list_all-first_piece p q (x ∷ text) piece others e h = elim (cases_Bool (p x)) [
@@ -47,7 +47,7 @@ list_all-first_piece p q (x ∷ text) piece others e h = elim (cases_Bool (p x))
       rw (is, first) (list_all-first_piece p q text cut.0 cut.1 cut.3 others)
 ]
 
--- a text that was cut behind its front: the front, and what stands behind the byte after it
+-- a text that was split after its front: the front, and the text after the byte that follows it
 pub front_cut : (c : ℕ) (text front behind : List ℕ) → text ≡ front ++ c ∷ behind
     → (length front ≤ length text) × (take (length front) text ≡ front) × (behind_place text (length front) ≡ Some behind)
 front_cut c text front behind e =
@@ -56,11 +56,11 @@ front_cut c text front behind e =
     let left : drop (length front + 1) text ≡ behind = ap (drop (length front + 1)) e ∙ drop-append-add front (c ∷ behind) 1 in
     (omega (arith, long), taken, rw (lt-ltb (length front) (length text) (omega (arith, long)), left) refl)
 
--- nothing stands behind the end
+-- there is nothing after the end
 pub behind_end : (text : List ℕ) → behind_place text (length text) ≡ None
 behind_end text = rw (le-ltb (length text) (length text) (omega arith)) refl
 
--- what stands behind a place, counted from another before it
+-- the text after a place, counted from an earlier place
 pub behind_place-drop : (text : List ℕ) (k n : ℕ) → k ≤ length text → behind_place (drop k text) n ≡ behind_place text (k + n)
 behind_place-drop text k n within = elim (cases_lt (k + n) (length text)) [
   | inl low ↦

@@ -19,22 +19,22 @@ digit_is x h = grind arith
 digit_below_ten : (x : ℕ) → is_ascii_digit x ≡ true → digit_value x < 10
 digit_below_ten x h = grind arith
 
--- ---- digits in a row
+-- ---- several digits
 
--- the first of digits is one
+-- the first one is a digit
 first_digit : (x : ℕ) (xs : List ℕ) → list_all is_ascii_digit (x ∷ xs) ≡ true → is_ascii_digit x ≡ true
 first_digit x xs h = grind arith
 
--- those behind the first are digits, too
+-- the others are digits
 other_digits : (x : ℕ) (xs : List ℕ) → list_all is_ascii_digit (x ∷ xs) ≡ true → list_all is_ascii_digit xs ≡ true
 other_digits x xs h = grind arith
 
--- a front never shrinks when digits follow it
+-- a number doesn't get smaller with more digits after it
 grows : (n : ℕ) (xs : List ℕ) → n ≤ digits_value_after 10 n xs
 grows n [] = omega arith
 grows n (x ∷ xs) = omega (arith, grows (n * 10 + digit_value x) xs)
 
--- a smaller front stays smaller, where no more digits follow it
+-- a smaller front gives a smaller number, if no more digits follow it
 less : (xs ys : List ℕ) (m n : ℕ) → m < n → length xs ≤ length ys → list_all is_ascii_digit xs ≡ true → digits_value_after 10 m xs < digits_value_after 10 n ys
 less [] ys m n lt le d = omega (arith, grows n ys)
 less (x ∷ xs) [] m n lt le d = absurd (omega arith)
@@ -42,7 +42,7 @@ less (x ∷ xs) (y ∷ ys) m n lt le d =
     let small = digit_below_ten x (first_digit x xs d) in
     less xs ys (m * 10 + digit_value x) (n * 10 + digit_value y) (omega arith) (omega arith) (other_digits x xs d)
 
--- as many digits behind the same front compare by their bytes
+-- numbers with the same front and the same number of digits compare by their bytes
 level : (xs ys : List ℕ) (m : ℕ) → length xs ≡ length ys → list_all is_ascii_digit xs ≡ true → list_all is_ascii_digit ys ≡ true
     → nat_cmp (digits_value_after 10 m xs) (digits_value_after 10 m ys) ≡ slice_cmp nat_cmp xs ys
 level [] [] m e d f = sym (nat_cmp_is m m Equal refl)
@@ -63,7 +63,7 @@ level (x ∷ xs) (y ∷ ys) m e d f =
       ]
     ]
 
--- fewer digits are a smaller number, where the others begin with none that is 0
+-- fewer digits are a smaller number, if the others don't begin with 0
 shorter : (xs ys : List ℕ) → length xs < length ys → list_all is_ascii_digit xs ≡ true → list_all is_ascii_digit ys ≡ true → not (slice_index ys 0 == 48) ≡ true
     → number_of xs < number_of ys
 shorter xs [] lt d f leading = absurd (omega arith)
@@ -72,7 +72,7 @@ shorter xs (y ∷ ys) lt d f leading =
     let some : 0 < digit_value y = grind arith in
     less xs ys 0 (0 * 10 + digit_value y) (omega arith) (omega arith) d
 
--- without leading zeros, numbers compare by how many digits they have, and then by their bytes
+-- without leading zeros, numbers compare by the number of digits, and then by their bytes
 pub number_cmp : (xs ys : List ℕ) → list_all is_ascii_digit xs ≡ true → not (slice_index xs 0 == 48) ≡ true → list_all is_ascii_digit ys ≡ true → not (slice_index ys 0 == 48) ≡ true
     → nat_cmp (number_of xs) (number_of ys) ≡ ordering_then (nat_cmp (length xs) (length ys)) (slice_cmp nat_cmp xs ys)
 number_cmp xs ys d leading f other_leading = elim (cases_lt (length xs) (length ys)) [

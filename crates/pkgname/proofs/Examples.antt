@@ -1,4 +1,4 @@
--- The definitions at names and versions whose answers are known.
+-- The definitions applied to names and versions with known results.
 use Rattle.std.proofs.Common.{◌≡◌, ◌++◌, codes, refl, Ok, Err, replicate, [], ◌∷◌, Some}
 use Rattle.std.proofs.Common.{Less, Equal, Greater}
 use Rattle.pkgname.specs.PkgName.{name_of, stem_of, version_of, flavors_of}

@@ -1,4 +1,4 @@
--- The fields of a name: its text, and where its parts are.
+-- The fields of a name: its text, and the lengths of its parts.
 use Rattle.std.specs.Prelude.{◌≡◌, ◌+◌, ◌≤◌, Some, None, Option, List, ℕ, length, take, drop, nat_lt, if◌then◌else◌}
 use Rattle.faults.specs.Bytes.{Text, dash}
 use Rattle.pkgname.specs.Pieces.{pieces_behind}
@@ -10,11 +10,11 @@ use Rattle.pkgname.specs.declared.name.PkgName.TheInside.{Inside}
 abbrev pub text_of : Inside → List ℕ
 text_of n = n.text
 
--- what stands behind the byte at the place, if there is one
+-- the text after the byte at the place, if there is one
 abbrev pub behind_place : Text → ℕ → Option Text
 behind_place text i = if nat_lt i (length text) then Some (drop (i + 1) text) else None
 
--- the parts of a text by the lengths of its stem and its version
+-- the parts of a text, given the lengths of its stem and its version
 abbrev pub parts_by_lengths : Text → ℕ → ℕ → Parts
 parts_by_lengths text stem_length version_length = record {
   stem = take stem_length text;
@@ -22,7 +22,7 @@ parts_by_lengths text stem_length version_length = record {
   flavors = pieces_behind dash (behind_place text (stem_length + 1 + version_length));
 }
 
--- the text is a name, and its parts are those by the lengths of its stem and its version
+-- the text is a name, and its parts are those given by the lengths of its stem and its version
 pub record IsSplit (n : Inside) : Type 0 where
   pub name : IsName n.text
   pub within : n.stem_length + 1 + n.version_length ≤ length n.text

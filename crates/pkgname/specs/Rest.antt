@@ -1,4 +1,4 @@
--- How what stands behind the digits of a component ranks.
+-- The rank of what follows the digits of a component.
 use Rattle.std.specs.Prelude.{ℕ, ◌&&◌, [], length, drop, codes, Option, Some, None, if◌then◌else◌}
 use Rattle.std.specs.Char.{is_ascii_digit}
 use Rattle.std.specs.List.{list_all}
@@ -10,7 +10,7 @@ use Rattle.pkgname.specs.Version.{number_of}
 use Rattle.pkgname.specs.declared.rest.Rank.{Rank}
 use Rattle.pkgname.specs.declared.rest.Rank.TheVariants.{Alpha, Beta, Pre, Candidate, Release, PatchLevel, Other}
 
--- the place of a rank, counted from the lowest, which has 0
+-- the place of a rank, counted from the lowest, which is 0
 abbrev pub place_of : Rank → ℕ
 place_of Alpha = 0
 place_of Beta = 1
@@ -20,32 +20,32 @@ place_of Release = 4
 place_of PatchLevel = 5
 place_of Other = 6
 
--- a rest's rank, and what tells it from others of that rank: a number, or its bytes
+-- a rest: its rank, and what distinguishes it from others of that rank, a number or its bytes
 pub record Rest : Type 0 where
   pub rank : Rank
   pub number : ℕ
   pub text : Text
 
--- the number behind the word, where the text is the word and digits alone
+-- the number after the word, if the text is the word and only digits after it
 abbrev pub number_behind : Text → Text → Option ℕ
 number_behind word text =
     if begins_with word text && list_all is_ascii_digit (drop (length word) text)
     then Some (number_of (drop (length word) text))
     else None
 
--- a rest of this rank where a number stands behind its word, and otherwise the other rest
+-- a rest of this rank if there is a number after its word, and else the other one
 abbrev pub by_word : Rank → Option ℕ → Rest → Rest
 by_word rank None other = other
 by_word rank (Some number) other = record { rank = rank; number = number; text = [] }
 
--- a rest that is no such word: that of the release itself if it is empty, and else another, told by
--- its bytes
+-- a rest without such a word: that of the release itself if it is empty, and else another one,
+-- distinguished by its bytes
 abbrev pub without_word : Text → Rest
 without_word text =
     record { rank = if is_empty text then Release else Other; number = 0; text = text }
 
--- what a text says as a rest, the first that applies: one of these words with digits alone, or
--- nothing, behind it; else a rest without a word
+-- the rest that a text is, the first that applies: one of these words with only digits or nothing
+-- after it; else a rest without a word
 abbrev pub rest_of : Text → Rest
 rest_of text =
     by_word Alpha (number_behind (codes "alpha") text)
@@ -55,7 +55,7 @@ rest_of text =
     (by_word PatchLevel (number_behind (codes "pl") text)
     (without_word text)))))
 
--- rests of one rank compare by number, and then by bytes
+-- rests of equal rank compare by number, and then by bytes
 abbrev pub within_rank_cmp : Rest → Rest → Ordering
 within_rank_cmp = then_cmp (on (λ r. r.number) nat_cmp) (on (λ r. r.text) text_cmp)
 

@@ -1,4 +1,4 @@
--- What a version says: its markers, and the components of its body.
+-- The contents of a version: its markers, and the components of its body.
 use Rattle.std.specs.Prelude.{◌≡◌, ◌-◌, ℕ, Bool, true, false, ◌&&◌, not, List, [], ◌∷◌, length, take, drop, map, nat_eq, slice_get, Option, Some, None, if◌then◌else◌}
 use Rattle.std.specs.Char.{is_ascii_digit}
 use Rattle.std.specs.List.{ends_with, list_all, prefix_len, suffix_len, take_while}
@@ -8,7 +8,8 @@ use Rattle.faults.specs.Bytes.{Text, dash, dot, has_byte, is_empty, letter_p, le
 use Rattle.faults.specs.Pieces.{pieces_at}
 use Rattle.pkgname.specs.PkgName.{is_name_byte}
 
--- the text is a version: it begins with a digit, and each byte is one of a name other than the dash
+-- whether the text is a version: it begins with a digit, and its bytes are allowed in a name and
+-- not dashes
 abbrev pub is_version : Text → Bool
 is_version text =
     option_map_or is_ascii_digit (slice_get text 0) false
@@ -18,21 +19,21 @@ is_version text =
 abbrev pub IsVersion : Text → Type 0
 IsVersion text = is_version text ≡ true
 
--- the number that digits write in base ten; none write 0
+-- the number that digits write in base ten; no digits are 0
 abbrev pub number_of : Text → ℕ
 number_of digits = digits_value 10 digits
 
 -- ---- the markers at the end
 
--- the digits with which the text ends
+-- the digits at the end of the text
 abbrev pub digits_at_end : Text → Text
 digits_at_end text = drop (length text - suffix_len is_ascii_digit text) text
 
--- what stands before the digits with which the text ends
+-- the text before the digits at its end
 abbrev pub before_digits_at_end : Text → Text
 before_digits_at_end text = take (length text - suffix_len is_ascii_digit text) text
 
--- the text ends with the letter and at least one digit
+-- whether the text ends with the letter and at least one digit
 abbrev pub has_marker : ℕ → Text → Bool
 has_marker letter text =
     not (is_empty (digits_at_end text))
@@ -49,15 +50,14 @@ without_marker letter text =
 
 -- ---- the components of the body
 
--- what stands between dots in the body of a version
+-- a piece between dots in the body of a version
 pub record Component : Type 0 where
-  -- what the digits at its front write
+  -- the number that its leading digits write
   pub number : ℕ
-  -- what stands behind them
+  -- the text after them
   pub rest : Text
 
--- the component that a piece of a body is: the number of its leading digits, and what stands behind
--- them
+-- the component of a piece of a body: the number of its leading digits, and the text after them
 abbrev pub component_of : Text → Component
 component_of piece = record {
   number = number_of (take_while is_ascii_digit piece);
@@ -68,15 +68,15 @@ component_of piece = record {
 abbrev pub components_of : Text → List Component
 components_of body = map component_of (pieces_at dot body)
 
--- what a version says: the number of its marker v, if it has one, its components, and the number of
--- its marker p, if it has one
+-- the contents of a version: the number of its marker v, if it has one, its components, and the
+-- number of its marker p, if it has one
 pub record Parts : Type 0 where
   pub v : Option ℕ
   pub components : List Component
   pub p : Option ℕ
 
--- what the text of a version says: the marker v is the one at its end, the marker p the one at the
--- end of what is left, and what is then left is the body
+-- the contents of a version's text: the marker v is at its end, the marker p at the end of what
+-- precedes that, and the rest is the body
 abbrev pub parts_of : Text → Parts
 parts_of text =
     let without_v = without_marker letter_v text in

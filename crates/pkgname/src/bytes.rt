@@ -1,12 +1,12 @@
-//! The bytes of a name, and where its version begins.
+//! The bytes of a name, and the place of its version.
 ghost use Rattle.std.specs.Prelude.{◌≡◌, ◌+◌, ◌<◌, ◌||◌, IfSome, length};
 ghost use Rattle.std.specs.Char.{is_ascii_digit};
 ghost use Rattle.std.specs.List.{list_all};
 ghost use Rattle.faults.specs.Bytes.{is_one_of};
 ghost use Rattle.pkgname.specs.PkgName.{is_dash_before, is_name_byte, version_dash};
 
-/// Whether each byte may stand in a name: one of 0x21 to 0x7e other than `/`, `:`, `|`, `,`, `!`,
-/// `*`, `<`, `>` and `=`. Which bytes these are is this project's own choice.
+/// Whether each byte is allowed in a name: 0x21 to 0x7e other than `/`, `:`, `|`, `,`, `!`, `*`,
+/// `<`, `>` and `=`. This set is this project's own choice.
 pub fn has_name_bytes(text: &[u8]) -> bool
     ensures { result ≡ list_all is_name_byte text.now }
 {
@@ -23,8 +23,8 @@ fn is_name_byte(byte: u8) -> bool
         )
 }
 
-/// The index of the dash before a version or bounds: the first, other than the first byte, that a
-/// digit or one of the bytes `also` follows, if there is one.
+/// The index of the dash before a version or bounds: the first one, not counting the first byte,
+/// that is followed by a digit or one of the bytes `also`.
 pub fn dash_before_version(text: &[u8], also: &[u8]) -> Option<usize>
     ensures place { result ≡ version_dash (λ b. is_one_of also.now b || is_ascii_digit b) text.now }
     ensures within { IfSome result (λ at. at + 1 < length text.now) }

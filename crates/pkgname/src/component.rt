@@ -25,7 +25,7 @@ impl<'a> Model for Component<'a> {
 }
 
 impl<'a> Component<'a> {
-    /// What a piece of a body says: a number, which may have no digits, and a rest.
+    /// The component of a piece of a body: a number, which may have no digits, and a rest.
     pub fn new(piece: &'a [u8]) -> Component<'a>
         ensures { result ≡ component_of piece.entry.now }
     {

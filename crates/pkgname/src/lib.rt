@@ -24,22 +24,22 @@ pub use crate::name::PkgName;
 pub use crate::pieces::Pieces;
 pub use crate::version::{Version, is_version};
 
-/// Why a text is no package name. These are tested in this order, and the first that applies is
-/// the answer: `TooLong`, `BadByte`, `NoVersion`. `Memory` may stand in place of any answer. No
-/// fault has a place. The numbers, the limit and the order of the tests are this project's own.
+/// Why a text is not a package name. The tests are made in this order, and the first that applies
+/// is returned: `TooLong`, `BadByte`, `NoVersion`. `Memory` may be returned in any case. No fault
+/// has a place. The numbers, the limit and the order of the tests are this project's own.
 #[derive(Clone, Copy, Debug, PartialEq, Eq, Error)]
 pub enum NameFault {
-    /// Number 1: a growth was refused. It says nothing of the text.
+    /// Number 1: an allocation failed. Says nothing about the text.
     #[error("out of memory")]
     Memory,
     /// Number 203: the text has more than 255 bytes.
     #[error("the name has more than 255 bytes")]
     TooLong,
-    /// Number 202: the text has a byte that may not stand in a name, or behind its version a
-    /// flavor is empty.
-    #[error("the name has a byte that may not stand there, or an empty flavor")]
+    /// Number 202: the text has a byte that isn't allowed in a name, or an empty flavor after its
+    /// version.
+    #[error("the name has a byte that isn't allowed, or an empty flavor")]
     BadByte,
-    /// Number 201: no dash, other than the first byte, has a digit behind it.
+    /// Number 201: no dash after the first byte is followed by a digit.
     #[error("the name has no version")]
     NoVersion,
 }

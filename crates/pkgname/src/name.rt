@@ -1,4 +1,4 @@
-//! A package name, which contracts see as its text.
+//! A package name. Contracts see its text.
 ghost use Rattle.std.specs.Prelude.{◌≡◌, ◌≤◌, ◌++◌, ◌∷◌, drop, false, length, take, true, Some, IfErr, IfOk, OnOk, OnErr, nat_eq, refl};
 ghost use Rattle.std.proofs.Common.{rules};
 ghost use Rattle.std.specs.Cmp.{partial_equiv_from_equiv};
@@ -21,7 +21,7 @@ use std::cmp::Ordering;
 use std::hash::{Hash, Hasher};
 use std::marker::Model;
 
-/// The most bytes that a name may have.
+/// The maximum length of a name in bytes.
 const LONGEST: usize = 255;
 
 /// A package name of packages-specs(7), `stem-version[-flavors]`, of at most 255 bytes. Names are
@@ -48,11 +48,11 @@ impl Model for PkgName {
 }
 
 impl PkgName {
-    /// Reads the whole text as a name, or answers its first fault. By packages-specs(7) the version
-    /// begins behind the first dash that a digit follows, and goes to the next dash or the end;
-    /// what stands before that first dash is the stem, and what follows the version are flavors
-    /// between dashes. By this project's own rule that dash is not the first byte, no flavor is
-    /// empty, and only the bytes of `has_name_bytes` may stand there.
+    /// Parses the whole text as a name, or returns its first fault. By packages-specs(7) the
+    /// version begins after the first dash that is followed by a digit, and ends at the next dash
+    /// or the end. The text before that first dash is the stem, and after the version the flavors
+    /// follow, separated by dashes. By this project's own rules that dash is not the first byte, no
+    /// flavor is empty, and only the bytes of `has_name_bytes` are allowed.
     pub fn parse(alloc: Global, text: &[u8]) -> Result<PkgName, NameFault>
         ensures { IsRightUnless NameFault.Memory result (name_of text.now) }
     {
@@ -74,7 +74,7 @@ impl PkgName {
         })
     }
 
-    /// Appends the text to `out`, or answers `Memory` and leaves its bytes as they were.
+    /// Appends the text to `out`, or nothing if memory runs out.
     pub fn write_to(&self, out: &mut Vec<u8>) -> Result<(), Memory>
         ensures ok { OnOk result (out.new.items ≡ out.old.items ++ self.now) }
         ensures err { OnErr result (out.new.items ≡ out.old.items) }
@@ -83,7 +83,7 @@ impl PkgName {
         Ok(())
     }
 
-    /// The bytes of the text that was read: 3 to 255.
+    /// The bytes of the text that was parsed: 3 to 255.
     pub fn as_bytes(&self) -> &[u8]
         ensures text { result.now ≡ self.now }
         ensures name { IsName self.now }
@@ -91,7 +91,7 @@ impl PkgName {
         self.text.as_slice()
     }
 
-    /// The bytes before the version and its dash: at least one, and maybe dashes among them.
+    /// The bytes before the version and its dash: at least one, possibly with dashes.
     pub fn stem(&self) -> &[u8]
         ensures { result.now ≡ stem_of self.now }
     {
@@ -106,7 +106,7 @@ impl PkgName {
         Version::new(&self.as_bytes()[start..start + usize::from(self.version_length)])
     }
 
-    /// The flavors in the order of the text, none empty. One that stands there twice is here twice.
+    /// The flavors in the order of the text. None is empty. Repeated flavors are repeated here.
     pub fn flavors(&self) -> Pieces<'_>
         ensures { result ≡ flavors_of self.now }
     {
@@ -127,7 +127,7 @@ impl PkgName {
     }
 }
 
-/// The length of the version with which the text begins, where no flavor behind it is empty.
+/// The length of the version at the front of the text. Fails if a flavor after it is empty.
 fn version_length(text: &[u8]) -> Result<usize, NameFault>
     ensures ok { IfOk result (λ n. (n ≤ length text.now)
         × (pieces_at dash text.now
@@ -143,7 +143,7 @@ fn version_length(text: &[u8]) -> Result<usize, NameFault>
     }
 }
 
-/// Whether nothing stands somewhere between dashes.
+/// Whether a piece between dashes is empty.
 fn has_empty_piece(text: &[u8]) -> bool
     ensures { result ≡ list_any is_empty (pieces_at dash text.now) }
 {

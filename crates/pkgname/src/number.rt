@@ -1,4 +1,4 @@
-//! A number that a version writes in digits.
+//! A number in a version.
 ghost use Rattle.std.specs.Prelude.{◌≡◌, ◌==◌, not, slice_index, true};
 ghost use Rattle.std.specs.Char.{is_ascii_digit};
 ghost use Rattle.std.specs.List.{list_all};
@@ -8,7 +8,7 @@ ghost use Rattle.pkgname.specs.Version.{number_of};
 use std::cmp::Ordering;
 use std::marker::Model;
 
-/// Any number of digits, which contracts see as the number that they write. No digits write 0.
+/// A number of any length in digits. Contracts see its value. No digits are 0.
 #[derive(Drop)]
 pub(crate) struct Number<'a> {
     digits: &'a [u8],
@@ -35,7 +35,7 @@ impl<'a> Number<'a> {
         Number { digits }
     }
 
-    /// Compares the digits as they stand, since they may be too many for any integer.
+    /// Compares the digits themselves, because they may be too many for any integer type.
     pub fn compare(&self, other: &Number<'_>) -> Ordering
         ensures { result ≡ nat_cmp self.now other.now }
     {

@@ -58,7 +58,7 @@ impl<'a> Parts<'a> {
     }
 }
 
-/// What stands before the marker at the end of the text, and the marker's number, where it has one.
+/// The text before the marker at its end, and the marker's number, if it has one.
 fn split_marker(text: &[u8], letter: u8) -> (&[u8], Option<Number<'_>>)
     ensures front { result.0.now ≡ without_marker letter text.entry.now }
     ensures number { result.1 ≡ marker letter text.entry.now }
@@ -85,7 +85,7 @@ fn before_digits_at_end(mut text: &[u8]) -> &[u8]
     text
 }
 
-/// No marker is below any.
+/// Compares the numbers of markers; having no marker is less.
 fn compare_markers(own: &Option<Number<'_>>, other: &Option<Number<'_>>) -> Ordering
     ensures { result ≡ option_cmp nat_cmp own.now other.now }
 {
@@ -97,7 +97,7 @@ fn compare_markers(own: &Option<Number<'_>>, other: &Option<Number<'_>>) -> Orde
     }
 }
 
-/// Compares the components from the left. A body that ends first is below.
+/// Compares the components from the left; the body that ends first is less.
 fn compare_bodies(own: &[u8], other: &[u8]) -> Ordering
     ensures { result
         ≡ slice_cmp component_cmp (components_of own.entry.now) (components_of other.entry.now) }

@@ -1,4 +1,4 @@
-//! The pieces of a text between its separators.
+//! The pieces of a text between separators.
 ghost use Rattle.std.specs.Prelude.{◌≡◌, option_copied};
 ghost use Rattle.faults.specs.Pieces.{pieces_at};
 ghost use Rattle.pkgname.specs.Pieces.{pieces_behind};
@@ -6,8 +6,8 @@ ghost use Rattle.pkgname.specs.Pieces.{pieces_behind};
 use faults::split_once;
 use std::marker::Model;
 
-/// The pieces of a text between its separators, from the left: of a whole text one more than it has
-/// separators. Contracts see those that are still to come.
+/// The pieces of a text between separators, from the left. A whole text has one more than it has
+/// separators. Contracts see the pieces that are left.
 #[derive(Drop)]
 pub struct Pieces<'a> {
     separator: u8,
@@ -34,7 +34,7 @@ impl<'a> Pieces<'a> {
         }
     }
 
-    /// The pieces of what stands behind a separator, none where there is no separator.
+    /// The pieces of the text after a separator, or none if there is no separator.
     pub fn behind(text: Option<&'a [u8]>, separator: u8) -> Pieces<'a>
         ensures { result ≡ pieces_behind separator (option_copied text.entry) }
     {

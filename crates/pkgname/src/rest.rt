@@ -1,4 +1,4 @@
-//! What stands behind the digits of a component, by its rank.
+//! The rank of what follows the digits of a component.
 ghost use Rattle.std.specs.Prelude.{◌≡◌, []};
 ghost use Rattle.std.specs.Char.{is_ascii_digit};
 ghost use Rattle.std.specs.List.{list_all};
@@ -8,8 +8,8 @@ use crate::number::Number;
 use std::cmp::Ordering;
 use std::marker::Model;
 
-/// The ranks from the lowest: the words of what comes before a release, the release itself, the
-/// word of what comes after it, and any other rest.
+/// The ranks from the lowest: the words for what precedes a release, the release itself, the word
+/// for what follows it, and any other rest.
 #[derive(Clone, Copy)]
 pub(crate) enum Rank {
     Alpha,
@@ -115,7 +115,7 @@ impl<'a> Rest<'a> {
     }
 }
 
-/// The number behind the word, where the text is the word and digits alone.
+/// The number after the word, if the text is the word and only digits after it.
 fn number_behind<'a>(word: &[u8], text: &'a [u8]) -> Option<Number<'a>>
     ensures { result ≡ number_behind word.now text.entry.now }
 {

@@ -1,4 +1,4 @@
-//! A version, which contracts see as its text.
+//! A version. Contracts see its text.
 ghost use Rattle.std.specs.Prelude.{◌≡◌};
 ghost use Rattle.pkgname.specs.Order.{version_cmp};
 ghost use Rattle.pkgname.specs.Version.{IsVersion, is_version};
@@ -8,8 +8,8 @@ use crate::parts::Parts;
 use std::cmp::Ordering;
 use std::marker::Model;
 
-/// The version of a name or of a bound, in its text: a digit first, and then any number of the
-/// bytes of a name other than the dash. It has no `==`, since versions whose texts differ may tie.
+/// The text of the version of a name or of a bound: a digit, and then any number of bytes of a name
+/// other than dashes. It has no `==`, because different versions may tie.
 #[derive(Drop)]
 pub struct Version<'a> {
     text: &'a [u8],
@@ -27,7 +27,7 @@ impl<'a> Model for Version<'a> {
 }
 
 impl<'a> Version<'a> {
-    /// The version with this text, which has to be a version's (`is_version`).
+    /// The version with this text, which has to be a version (`is_version`).
     pub fn new(text: &'a [u8]) -> Version<'a>
         requires { IsVersion text.now }
         ensures { result ≡ text.entry.now }
@@ -43,20 +43,20 @@ impl<'a> Version<'a> {
         self.text
     }
 
-    /// Where this version stands to the other. A version is a body, then `p` and digits if it has
-    /// that marker of packages-specs(7), then `v` and digits if it has that one. How they compare
-    /// is this project's own order, a total preorder (`version_order_is_total_preorder`):
+    /// Compares this version with the other. A version is a body, then `p` and digits if it has
+    /// that marker of packages-specs(7), then `v` and digits if it has that one. The order is this
+    /// project's own, a total preorder (`version_order_is_total_preorder`):
     ///
-    /// - by the number of `v`, none being below `v0`;
-    /// - then by the components between the body's dots, from the left, a body that ends first
-    ///   being below; a component by the number of its leading digits, 0 without any, and then by
+    /// - by the number of `v`, where having none is less than `v0`;
+    /// - then by the components between the body's dots, from the left, where the body that ends
+    ///   first is less; a component by the number of its leading digits, 0 without any, and then by
     ///   its rest;
-    /// - then by the number of `p`, none being below `p0`.
+    /// - then by the number of `p`, where having none is less than `p0`.
     ///
-    /// Rests from the lowest are `alpha`, `beta`, `pre`, `rc`, nothing, `pl`, and any other, where
-    /// a word may have digits behind it and nothing else; the same word compares by the number of
-    /// these, 0 without any, and other rests by their bytes. Numbers have any number of digits.
-    /// Versions that tie need not be equal, as 1.02 and 1.2. It takes no memory.
+    /// Rests are, from the lowest: `alpha`, `beta`, `pre`, `rc`, the empty rest, `pl`, and any
+    /// other. A word may be followed only by digits. Equal words compare by the number of these, 0
+    /// without any, and other rests by their bytes. Numbers have any number of digits. Versions
+    /// that tie need not be equal, such as 1.02 and 1.2. Does not allocate.
     pub fn compare(&self, other: &Version<'_>) -> Ordering
         ensures { result ≡ version_cmp self.now other.now }
     {
@@ -66,7 +66,8 @@ impl<'a> Version<'a> {
     }
 }
 
-/// Whether the text is a version's: a digit first, and each byte one of a name other than the dash.
+/// Whether the text is a version: it begins with a digit, and its bytes are allowed in a name and
+/// not dashes.
 pub fn is_version(text: &[u8]) -> bool
     ensures { result ≡ is_version text.now }
 {

@@ -1,4 +1,4 @@
--- What is written behind the directory, and what is read from it.
+-- What is written after the directory, and what is parsed from it.
 use Rattle.std.proofs.Common.{◌≡◌, ℕ, ◌≤◌, Bool, true, false, ◌&&◌, ◌||◌, ◌++◌, not, cond, List, [], ◌∷◌, length, refl, ◌∙◌, arith, Option, Some, None, option_to_list, if◌then◌else◌}
 use Rattle.std.proofs.lemmas.Bool.{and_from, and_parts}
 use Rattle.std.proofs.lemmas.List.{append-nil}
@@ -17,7 +17,7 @@ or_false : (b : Bool) → (b || false) ≡ b
 or_false true = refl
 or_false false = refl
 
--- ---- what is written behind the directory
+-- ---- what is written after the directory
 
 -- the mark, the flavors and the subpackage
 abbrev pub behind : Bool → List Text → Option Text → List Text
@@ -27,7 +27,7 @@ pub behind-all : (p : Text → Bool) (mark : Bool) (flavors : List Text) (subpac
 behind-all p true flavors subpackage none all one = and_from _ _ none (list_all-append p flavors (option_to_list subpackage) ∙ and_from _ _ all one)
 behind-all p false flavors subpackage none all one = list_all-append p flavors (option_to_list subpackage) ∙ and_from _ _ all one
 
--- ---- what is read from that
+-- ---- what is parsed from that
 
 find-last : (subpackage : Option Text) → list_all is_subpackage (option_to_list subpackage) ≡ true → find is_subpackage (option_to_list subpackage) ≡ subpackage
 find-last None one = refl
@@ -92,7 +92,7 @@ module _ (flavors : List Text) (subpackage : Option Text) (all : list_all is_fla
   behind-mark true none = rw (tail-flavor, none refl)
   behind-mark false none = rw tail-empty
 
--- ---- what is written weighs no more than what was read
+-- ---- what is written is not longer than what was parsed
 
 empties-weigh : (ps : List Text) → list_any is_empty ps ≡ true → 1 ≤ sum_by weight_of (filter is_empty ps)
 empties-weigh [] any = cc
@@ -103,7 +103,7 @@ mark-weighs : (ps : List Text) (mark : Bool) → (mark ≡ true → list_any is_
 mark-weighs ps true any = empties-weigh ps (any refl)
 mark-weighs ps false any = omega arith
 
--- what is written weighs no more than what was read
+-- what is written is not longer than what was parsed
 pub behind-weighs : (ps : List Text) (mark : Bool) → (mark ≡ true → list_any is_empty ps ≡ true) → sum_by weight_of (behind mark (set_of (filter is_flavor ps)) (find is_subpackage ps)) ≤ sum_by weight_of ps
 behind-weighs ps mark any =
     let front : List Text = if mark then [] ∷ [] else [] in

@@ -1,4 +1,4 @@
--- The canonical text spells what the text spells, and tells it.
+-- The canonical form of a text spells the same path, and determines it.
 use Rattle.std.proofs.Common.{◌≡◌, ◌≤◌, Bool, true, false, ◌&&◌, not, [], ◌∷◌, length, refl, sym, ap, ◌∙◌, arith, Option, Some, None, Ok, Err, option_to_list, unwrap_or, slice_get, drop, subst}
 use Rattle.std.proofs.lemmas.Bool.{and_from, and_parts, not-true}
 use Rattle.std.proofs.lemmas.List.Sums.{sum_by-cons}
@@ -20,9 +20,9 @@ filled_from_slash : (text : Text) → has_byte slash (directory_of text) ≡ tru
 filled_from_slash [] has = cc
 filled_from_slash (b ∷ bs) has = refl
 
--- ---- a path's parts, and their text
+-- ---- the parts of a path, and their text
 
--- parts that are those of a path
+-- valid parts of a path
 pub record IsWellFormed (v : Parts) : Type 0 where
   pub has_slash : has_byte slash v.directory ≡ true
   pub directory : is_directory v.directory ≡ true
@@ -65,7 +65,7 @@ module _ (v : Parts) (good : IsWellFormed v) where
       let subpackage : find is_subpackage (parts_of (canonical_text v)) ≡ v.subpackage = rw canonical-parts (behind-subpackage v.flavors v.subpackage good.flavors good.one v.is_explicitly_empty) in
       λ i. record { directory = canonical-directory i; flavors = flavors i; is_explicitly_empty = mark i; subpackage = subpackage i }
 
--- ---- what a text spells is well formed
+-- ---- what a text spells is valid
 
 module _ (text : Text) (none : fault_of text ≡ None) where
   spelled-mark : (value_of text).is_explicitly_empty ≡ true → (value_of text).flavors ≡ []
@@ -121,7 +121,7 @@ pub canonical_text_tells : (s t : Text) (v w : Parts) → Spells s v → Spells 
 canonical_text_tells s t v w spells spells' same =
     (canonical_text_is_read s v spells).0.value ∙ ap value_of same ∙ sym (canonical_text_is_read t w spells').0.value
 
--- what is answered for a text is a path
+-- the result for a text is a path
 pub IsPath-from_path_of : (text t : Text) → path_of text ≡ Ok t → IsPath t
 IsPath-from_path_of text t right = by (fault_of text) refl right
   where

@@ -9,7 +9,7 @@ use Rattle.pkgpath.specs.PkgPath.{canonical_text, directory_of, fault_of, is_dir
 use Rattle.pkgpath.specs.declared.PathFault.{PathFault}
 use Rattle.pkgpath.specs.declared.PathFault.TheVariants.{Empty, TooLong, NoSlash, BadByte, TwoSubpackages, TwoEmptyParts}
 
--- ---- a text without fault
+-- ---- a text without a fault
 
 some_is_not_none : {X : Type 0} (x : X) → Some x ≡ None → ⊥
 some_is_not_none x e = cc
@@ -24,7 +24,7 @@ none_applies false false false false true f none = absurd (some_is_not_none TwoS
 none_applies false false false false false true none = absurd (some_is_not_none TwoEmptyParts none)
 none_applies false false false false false false none = (refl, refl, refl, refl, refl, refl)
 
--- what a text without fault keeps to
+-- what holds of a text without a fault
 pub record IsFaultless (text : Text) : Type 0 where
   pub filled : is_empty text ≡ false
   pub short : length text ≤ most_bytes
@@ -53,7 +53,7 @@ pub no_fault : (text : Text) → IsFaultless text → fault_of text ≡ None
 no_fault text good =
     rw (good.filled, le-ltb most_bytes (length text) good.short, good.has_slash, good.directory, good.parts, le-ltb 1 (count_by is_subpackage (parts_of text)) good.one_subpackage, le-ltb 1 (count_by is_empty (parts_of text)) good.one_empty)
 
--- ---- what path_of answers
+-- ---- results of path_of
 
 faulty : (text : Text) (e : PathFault) → fault_of text ≡ Some e → path_of text ≡ Err e
 faulty text e is = ap (λ fault. unless_fault fault (canonical_text (value_of text))) is
@@ -91,7 +91,7 @@ module _ (text directory : Text) (parts : List Text) (filled : 0 < length text) 
   pub path_of-bad_byte : has_byte slash directory ≡ true → (is_directory directory && list_all is_part parts) ≡ false → path_of text ≡ Err BadByte
   path_of-bad_byte has_slash bad = faulty text BadByte (fault_of-later has_slash ∙ rw bad)
 
-  -- what the directory's own tests answer
+  -- the results of the directory's own tests
   pub path_of-directory : (e : PathFault) → first_that_applies ((not (has_byte slash directory), NoSlash) ∷ (not (is_directory directory), BadByte) ∷ []) ≡ Some e → path_of text ≡ Err e
   path_of-directory e first = by (has_byte slash directory) refl (is_directory directory) refl first
     where
@@ -100,7 +100,7 @@ module _ (text directory : Text) (parts : List Text) (filled : 0 < length text) 
       by true has false bad first = path_of-bad_byte has (and_left _ _ bad) ∙ cc
       by true has true good first = cc
 
-  -- a directory without fault
+  -- a directory without a fault
   pub no_directory_fault : first_that_applies ((not (has_byte slash directory), NoSlash) ∷ (not (is_directory directory), BadByte) ∷ []) ≡ None → (has_byte slash directory ≡ true) × (is_directory directory ≡ true)
   no_directory_fault none = by (has_byte slash directory) (is_directory directory) none
     where

@@ -1,4 +1,4 @@
--- The three kinds of parts, and what a list of parts has of each.
+-- The three kinds of parts, and what a list of parts has of each kind.
 use Rattle.std.proofs.Common.{◌≡◌, ℕ, ◌+◌, ◌≤◌, Bool, true, false, ◌||◌, cond, List, [], ◌∷◌, refl, ap, ◌∙◌, arith, Some, None, option_to_list, true≢false, codes, eqb, length, ◌<◌}
 use Rattle.std.proofs.lemmas.Bool.{and_from, and_left, and_parts, lt-ltb, not-true, or_left, or_parts, or_right}
 use Rattle.std.proofs.lemmas.List.Sums.{sum_by-cons}
@@ -8,7 +8,7 @@ use Rattle.pkgpath.specs.Kind.{IsOfKind}
 use Rattle.pkgpath.specs.PkgPath.{is_flavor, is_path_byte, is_subpackage}
 use Rattle.pkgpath.specs.declared.parts.Kind.TheVariants.{Subpackage, Flavor}
 
--- ---- a part is of one kind at most
+-- ---- a part has at most one kind
 
 pub flavor-is_empty : (p : Text) → is_flavor p ≡ true → is_empty p ≡ false
 flavor-is_empty [] flavor = cc
@@ -29,7 +29,7 @@ subpackage-is_flavor p sub = by (is_flavor p) refl
     by true flavor = let none = flavor-is_subpackage p flavor in cc
     by false other = other
 
--- ---- where all pass one test, and what passes it fails the other
+-- ---- all pass one test, and those that pass it fail the other
 
 module _ {X : Type 0} (p q : X → Bool) (apart : (x : X) → p x ≡ true → q x ≡ false) where
   pub list_any-apart : (xs : List X) → list_all p xs ≡ true → list_any q xs ≡ false
@@ -63,7 +63,7 @@ module _ {X : Type 0} (p : X → Bool) where
       let parts = and_parts (p x) (list_all p xs) all in
       rw parts.0 (ap (λ ys. x ∷ ys) (filter-all xs parts.1))
 
-  -- what is kept passes
+  -- elements that pass the filter pass the test
   pub list_all-filter : (xs : List X) → list_all p (filter p xs) ≡ true
   list_all-filter [] = refl
   list_all-filter (x ∷ xs) = by (p x) refl (list_all-filter xs)
@@ -80,7 +80,8 @@ module _ {X : Type 0} (p : X → Bool) where
       by true passes rest = and_from _ _ passes refl
       by false fails rest = rest
 
-  -- what is kept weighs no more, and what is found no more than what is kept
+  -- the sum over a filtered list is not greater, and that of the first element found is not greater
+  -- than it
   pub sum_by-find : (f : X → ℕ) (xs : List X) → sum_by f (option_to_list (find p xs)) ≤ sum_by f (filter p xs)
   sum_by-find f [] = omega arith
   sum_by-find f (x ∷ xs) = by (p x) (sum_by-find f xs)
@@ -89,7 +90,7 @@ module _ {X : Type 0} (p : X → Bool) where
       by true rest = omega (arith, sum_by-cons f x [], sum_by-cons f x (filter p xs))
       by false rest = rest
 
--- what all pass, those that are kept by another test pass, and the one that is found
+-- what all pass is passed by those that another filter keeps, and by the first one found
 module _ {X : Type 0} (p q : X → Bool) where
   pub list_all-kept : (xs : List X) → list_all p xs ≡ true → list_all p (filter q xs) ≡ true
   list_all-kept [] all = refl
@@ -111,7 +112,7 @@ module _ {X : Type 0} (p q : X → Bool) where
       by true first rest = and_from _ _ first refl
       by false first rest = rest
 
--- ---- the kinds of a list together weigh no more than the list
+-- ---- the sums of the kinds of a list together are not greater than that of the list
 
 at_most_one : (n : ℕ) (e f s : Bool) → (f ≡ true → e ≡ false) → (f ≡ true → s ≡ false) → (s ≡ true → e ≡ false) → cond e n 0 + cond f n 0 + cond s n 0 ≤ n
 at_most_one n true true s fe fs se = absurd (true≢false (fe refl))
@@ -135,7 +136,7 @@ sum_by-kinds f (x ∷ xs) =
     let here = at_most_one (f x) (is_empty x) (is_flavor x) (is_subpackage x) (flavor-is_empty x) (flavor-is_subpackage x) (subpackage-is_empty x) in
     omega (arith, here, sum_by-kinds f xs, sum_by-cons f x xs, sum_by-filter_cons is_empty f x xs, sum_by-filter_cons is_flavor f x xs, sum_by-filter_cons is_subpackage f x xs)
 
--- ---- how a part's kind is told
+-- ---- how the kind of a part is determined
 
 is_empty-length : (p : Text) → eqb (length p) 0 ≡ false → is_empty p ≡ false
 is_empty-length [] filled = cc

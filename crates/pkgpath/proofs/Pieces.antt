@@ -10,11 +10,11 @@ use Rattle.faults.specs.Bytes.{Text, comma, has_byte}
 use Rattle.faults.specs.Pieces.{pieces_at}
 use Rattle.pkgpath.specs.PkgPath.{directory_of, parts_of}
 
--- the byte doesn't stand in the text
+-- the byte doesn't occur in the text
 abbrev pub lacks : ℕ → Text → Bool
 lacks c text = not (has_byte c text)
 
--- ---- each piece lacks the byte at which the text was split
+-- ---- no piece has the byte at which the text was split
 
 onto_first-lacks : (c b : ℕ) (ps : List Text) → eqb b c ≡ false → list_all (lacks c) ps ≡ true → list_all (lacks c) (onto_first b ps) ≡ true
 onto_first-lacks c b [] other all = rw other refl
@@ -28,7 +28,7 @@ pieces-lack c (b ∷ bs) = by (eqb b c) refl (pieces-lack c bs)
     by true same rest = rest
     by false other rest = onto_first-lacks c b (pieces_at c bs) other rest
 
--- ---- pieces that lack it are the pieces of their join
+-- ---- pieces without it are the pieces of their join
 
 none_passes : (p : ℕ → Bool) (xs : Text) → list_any p xs ≡ false → All (λ x. p x ≡ false) xs
 none_passes p [] none = All-nil (λ x. p x ≡ false)
@@ -58,7 +58,7 @@ pieces-split text =
 
 -- ---- lengths
 
--- what a piece weighs, with one byte that separates it
+-- the length of a piece, with its separator
 abbrev pub weight_of : Text → ℕ
 weight_of p = length p + 1
 

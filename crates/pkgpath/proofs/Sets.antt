@@ -1,4 +1,4 @@
--- What sets of texts keep of the lists that they are of.
+-- What sets of texts share with the lists that they are made of.
 use Rattle.std.proofs.Common.{◌≡◌, ℕ, ◌+◌, ◌≤◌, Bool, true, List, [], ◌∷◌, refl, arith}
 use Rattle.std.proofs.lemmas.Bool.{and_from, and_parts}
 use Rattle.std.proofs.lemmas.List.Sums.{sum_by-cons}
@@ -19,7 +19,7 @@ list_all-with_member p t (u ∷ us) one all =
     by Equal first rest = all
     by Greater first rest = and_from _ _ first rest
 
--- what each text of a list passes, each member of its set passes
+-- a test that holds for a list holds for its set
 pub list_all-set_of : (p : Text → Bool) (ts : List Text) → list_all p ts ≡ true → list_all p (set_of ts) ≡ true
 list_all-set_of p [] all = refl
 list_all-set_of p (t ∷ ts) all =
@@ -35,7 +35,7 @@ sum_by-with_member f t (u ∷ us) = by (text_cmp t u) (sum_by-with_member f t us
     by Equal rest = omega arith
     by Greater rest = omega (arith, sum_by-cons f u us, sum_by-cons f u (with_member t us))
 
--- a set weighs no more than the list
+-- the sum over a set is not greater than that over the list
 pub sum_by-set_of : (f : Text → ℕ) (ts : List Text) → sum_by f (set_of ts) ≤ sum_by f ts
 sum_by-set_of f [] = omega arith
 sum_by-set_of f (t ∷ ts) = omega (arith, sum_by-with_member f t (set_of ts), sum_by-set_of f ts, sum_by-cons f t ts)

@@ -17,7 +17,7 @@ use Rattle.pkgpath.specs.declared.PathFault.{PathFault}
 abbrev bare : Parts → Parts
 bare v = record v { subpackage = None }
 
--- what holds of all that stands behind a directory holds of what is left
+-- a property of all parts after a directory holds for those that are left
 bare-all : (p : Text → Bool) (mark : Bool) (flavors : List Text) (subpackage : Option Text) → list_all p (behind mark flavors subpackage) ≡ true → list_all p (behind mark flavors None) ≡ true
 bare-all p true flavors subpackage all =
     let parts = and_parts (p []) _ all in
@@ -92,7 +92,7 @@ lacks-not c a s t lacking same =
     let no_byte : not (has_byte c t) ≡ true = lacking in
     (let f : true ≡ false = sym no_byte ∙ e in cc)
 
--- a text is cut at its last comma in one way
+-- a text is split at its last comma in one way
 cut-once : (a b s t : Text) → lacks comma s ≡ true → lacks comma t ≡ true → a ++ comma ∷ s ≡ b ++ comma ∷ t → (a ≡ b) × (s ≡ t)
 cut-once [] [] s t lacking lacking' same = (refl, cc)
 cut-once [] (y ∷ b) s t lacking lacking' same = absurd (let rest : b ++ comma ∷ t ≡ s = cc in lacks-not comma b t s lacking rest)
@@ -105,12 +105,13 @@ cut-once (x ∷ a) (y ∷ b) s t lacking lacking' same =
       rest.1,
     )
 
--- one more piece stands behind a comma
+-- one more piece after a comma
 join-last : (p : Text) (ps : List Text) (s : Text) → join_with_byte comma (p ∷ ps ++ s ∷ []) ≡ join_with_byte comma (p ∷ ps) ++ comma ∷ s
 join-last p [] s = refl
 join-last p (q ∷ qs) s = ap (λ t. p ++ comma ∷ t) (join-last q qs s) ∙ sym (append_assoc p (comma ∷ join_with_byte comma (q ∷ qs)) (comma ∷ s))
 
--- what stands behind the last comma of pieces that have none, and what it passes where they pass it
+-- the text after the last comma of pieces without commas, and a property of it that holds for all
+-- of them
 record LastOf (p : Text) (ps : List Text) : Type 0 where
   front : Text
   last : Text
@@ -134,7 +135,7 @@ no-byte c (x ∷ xs) none =
     let here : (x == c) ≡ false = none zero (omega arith) in
     rw here (no-byte c xs (λ k within. none (suc k) (omega (arith, within))))
 
--- ---- where a path is cut
+-- ---- where a path is split
 
 abbrev is_dashed : Text → Bool
 is_dashed part = begins_with (codes "-") part
@@ -145,7 +146,7 @@ is_undashed part = not (is_dashed part)
 true-is_not-false : true ≡ false → ⊥
 true-is_not-false same = cc
 
--- what stands behind the last comma of pieces that begin with no dash begins with none
+-- the text after the last comma of pieces that don't begin with a dash doesn't begin with one
 undashed-last : (d : Text) (ps : List Text) (a s : Text) → lacks comma d ≡ true → lacks comma s ≡ true → list_all (lacks comma) ps ≡ true → list_all is_undashed ps ≡ true
     → join_with_byte comma (d ∷ ps) ≡ a ++ comma ∷ s → is_undashed s ≡ true
 undashed-last d [] a s none lacking all undashed same = absurd (lacks-not comma a s d none (sym same))
@@ -167,7 +168,7 @@ path-canonical path is = by (fault_of path) is
     by None is = cc
     by (Some e) is = absurd (let e : Err e ≡ Ok path = is in cc)
 
--- the text before the first of two pieces, the byte between them, and the other
+-- the text before the first of two pieces, the byte between them, and the rest
 parted : (text : Text) (j : ℕ) → j < length text → get_or text j 0 ≡ comma → text ≡ take j text ++ comma ∷ drop (j + 1) text
 parted text j within here =
     sym (ap (λ b. take j text ++ b ∷ drop (j + 1) text) (sym here)
@@ -247,7 +248,7 @@ module _ (path : Text) (is : IsPath path) where
         by None none = absurd (true-is_not-false (sym (undashed none) ∙ ap not dashed))
         by (Some s) some = (cut-subpackage s some).0
 
-    -- a last part without a dash is none
+    -- a last part without a dash is not a subpackage
     pub kept-undashed : is_dashed (drop (j + 1) path) ≡ false → path ≡ without_subpackage path
     kept-undashed not_dashed = by value.subpackage refl
       where

@@ -1,4 +1,4 @@
--- The kinds of parts, and what a list of parts has of each.
+-- The kinds of parts, and what a list of parts has of each kind.
 use Rattle.std.specs.Prelude.{◌≡◌, true, false, List, count_by, find}
 use Rattle.std.specs.Option.{option_copied}
 use Rattle.faults.specs.Bytes.{Text, is_empty}
@@ -19,7 +19,7 @@ IsOfKind Flavor part =
     (is_part part ≡ true)
     × (is_empty part ≡ false) × (is_subpackage part ≡ false) × (is_flavor part ≡ true)
 
--- how many parts there are of each kind, and which are first
+-- the number of parts of each kind, and the first part of each kind
 pub record IsTally (tally : Tally) (parts : List Text) : Type 0 where
   pub empties : tally.empties ≡ count_by is_empty parts
   pub subpackages : tally.subpackages ≡ count_by is_subpackage parts

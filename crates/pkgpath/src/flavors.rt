@@ -12,7 +12,7 @@ fn is_flavor(part: &[u8]) -> bool
     !part.is_empty() && !part.starts_with(b"-")
 }
 
-/// The flavors among the parts of a text with commas between them: each once, in byte order.
+/// The flavors among the parts of a text separated by commas, in byte order and without repetition.
 pub(crate) fn flavor_set<'a>(alloc: Global, parts: &'a [u8]) -> Result<Vec<&'a [u8]>, AllocError>
     ensures { IfOk result (λ set.
         map (λ x. x.now) set.items

@@ -1,4 +1,4 @@
-//! Which bytes may stand in a package path, and which texts are directories.
+//! Which bytes may occur in a package path, and which texts are directories.
 ghost use Rattle.std.specs.Prelude.{◌≡◌, [], ◌∷◌, codes};
 ghost use Rattle.std.specs.List.{list_all};
 ghost use Rattle.faults.specs.Bytes.{is_among};

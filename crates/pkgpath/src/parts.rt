@@ -1,4 +1,4 @@
-//! The parts of a package path behind its directory.
+//! The parts of a package path after its directory.
 ghost use Rattle.std.specs.Prelude.{◌≡◌, true, false, MatchOption};
 ghost use Rattle.std.specs.List.{list_all};
 ghost use Rattle.faults.specs.Bytes.{comma};
@@ -15,7 +15,7 @@ pub(crate) enum Kind {
     Flavor,
 }
 
-/// How many parts there are of each kind, and which are first.
+/// The number of parts of each kind, and the first part of each kind.
 #[derive(Clone, Copy)]
 pub(crate) struct Tally<'a> {
     pub(crate) empties: usize,
@@ -42,7 +42,7 @@ fn kind_of(part: &[u8]) -> Option<Kind>
     }
 }
 
-/// Counts the parts of a text with commas between them, if all are parts.
+/// Counts the parts of a text separated by commas, if all are valid.
 pub(crate) fn count_parts<'a>(text: &'a [u8]) -> Option<Tally<'a>>
     ensures { let parts = pieces_at comma text.now in MatchOption result
         (list_all is_part parts ≡ false)

@@ -1,4 +1,4 @@
-//! A package path, which contracts see as its canonical text.
+//! A package path. Contracts see its canonical form.
 ghost use Rattle.std.specs.Prelude.{◌≡◌, ◌++◌, ◌∷◌, [], Ok, Some, IfOk, OnOk, OnErr, nat_eq, refl};
 ghost use Rattle.std.proofs.Common.{rules};
 ghost use Rattle.std.specs.Cmp.{partial_equiv_from_equiv};
@@ -16,11 +16,11 @@ use std::cmp::Ordering;
 use std::hash::{Hash, Hasher};
 use std::marker::Model;
 
-/// A path of pkgpath(7), as its canonical text: the directory, then behind a comma each the
-/// flavors in byte order and the subpackage with its dash. A path that says that it has no flavor
-/// has an empty part in their place.
+/// A path of pkgpath(7) in its canonical form: the directory, then the flavors in byte order and
+/// the subpackage with its dash, each after a comma. A path that is marked as having no flavor has
+/// an empty part in place of the flavors.
 ///
-/// Paths are compared, ordered and hashed by the bytes of that text, which copies share.
+/// Paths are compared, ordered and hashed by the bytes of that form, which copies share.
 #[derive(Drop)]
 pub struct PkgPath {
     text: SharedBytes,
@@ -38,14 +38,13 @@ impl Model for PkgPath {
 }
 
 impl PkgPath {
-    /// The path that the text spells. Its parts may stand in any order, and a flavor more than
-    /// once.
+    /// The path that the text spells. Its parts may be in any order, and flavors may be repeated.
     ///
     /// # Errors
     ///
-    /// `Memory`, where a growth was refused; else the first reason why the text spells none, in the
-    /// order in which `PathFault` lists them. A text of more than 255 bytes is refused, also where
-    /// its canonical text is shorter.
+    /// `Memory` if an allocation failed; else the first reason why the text doesn't spell a path,
+    /// in the order in which `PathFault` lists them. A text of more than 255 bytes is refused even
+    /// if its canonical form is shorter.
     pub fn parse(alloc: Global, text: &[u8]) -> Result<PkgPath, PathFault>
         ensures { IsRightUnless PathFault.Memory result (path_of text.now) }
     {
@@ -53,7 +52,7 @@ impl PkgPath {
         Ok(PkgPath { text })
     }
 
-    /// Appends the canonical text. Where a growth is refused, nothing is appended.
+    /// Appends the canonical form, or nothing if memory runs out.
     pub fn write_to(&self, out: &mut Vec<u8>) -> Result<(), Memory>
         ensures ok { OnOk result (out.new.items ≡ out.old.items ++ self.now) }
         ensures err { OnErr result (out.new.items ≡ out.old.items) }
@@ -62,7 +61,7 @@ impl PkgPath {
         Ok(())
     }
 
-    /// The canonical text, which has at most 255 bytes and is read as this path again.
+    /// The canonical form, which has at most 255 bytes and is parsed as this path.
     pub fn as_bytes(&self) -> &[u8]
         ensures text { result.now ≡ self.now }
         ensures canonical { IsPath self.now }
@@ -70,7 +69,7 @@ impl PkgPath {
         self.text.as_slice()
     }
 
-    /// The path without its subpackage. Where it has none, that is an equal path, which shares its
+    /// The path without its subpackage. If it has none, this is an equal path, which shares its
     /// text.
     pub fn without_subpackage(&self) -> Result<PkgPath, Memory>
         ensures { IfOk result (λ path. path ≡ without_subpackage self.now) }
@@ -84,7 +83,7 @@ impl PkgPath {
         Ok(PkgPath { text })
     }
 
-    /// A path that is equal to this one, and shares its text.
+    /// An equal path, which shares its text.
     pub fn copy(&self) -> Result<PkgPath, Memory>
         ensures { IfOk result (λ path. path ≡ self.now) }
     {
@@ -132,7 +131,7 @@ impl Ord for PkgPath {
 }
 
 impl Hash for PkgPath {
-    // The text is fed in one write, so that a hasher takes many bytes at a time.
+    // The text is passed to the hasher in one write, so that it can take many bytes at a time.
     ghost hash_input = { λ text. text ∷ [] };
 
     ghost respects_eq = { Prim.search (hashing, rules) };

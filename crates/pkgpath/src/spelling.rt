@@ -1,4 +1,4 @@
-//! What a text spells, and the canonical text of that.
+//! Parsing of a text as a path, and the canonical form of that.
 ghost use Rattle.std.specs.Prelude.{◌≡◌, ◌<◌, ◌≤◌, ◌++◌, ◌∷◌, [], not, filter, length, nat_lt, option_to_list, take, ◌&&◌, ◌==◌, if◌then◌else◌, IfOk, MatchOption, OnOk};
 ghost use Rattle.std.specs.List.{flat_map};
 ghost use Rattle.std.specs.Option.{option_copied};
@@ -15,7 +15,7 @@ use crate::parts::{Tally, count_parts};
 use faults::{SharedBytes, split_once};
 use std::alloc::{AllocError, Global};
 
-/// The most bytes that the text of a path has.
+/// The maximum length of a path's text in bytes.
 const LONGEST: usize = 255;
 
 fn directory_fault(directory: &[u8]) -> Option<PathFault>
@@ -32,7 +32,7 @@ fn directory_fault(directory: &[u8]) -> Option<PathFault>
     }
 }
 
-/// The canonical text of a text without commas.
+/// The canonical form of a text without commas.
 fn read_directory(alloc: Global, text: &[u8]) -> Result<SharedBytes, PathFault>
     requires filled { 0 < length text.now }
     requires short { length text.now ≤ grammar.most_bytes }
@@ -45,7 +45,7 @@ fn read_directory(alloc: Global, text: &[u8]) -> Result<SharedBytes, PathFault>
     Ok(SharedBytes::of(alloc, text)?)
 }
 
-/// Appends a part behind a comma.
+/// Appends a comma and the part.
 fn push_part(out: &mut Vec<u8>, part: &[u8]) -> Result<(), AllocError>
     ensures { OnOk result (out.new.items ≡ out.old.items ++ comma ∷ part.now) }
 {
@@ -54,7 +54,7 @@ fn push_part(out: &mut Vec<u8>, part: &[u8]) -> Result<(), AllocError>
     Ok(())
 }
 
-/// Appends each part behind a comma.
+/// Appends a comma and the part, for each part.
 fn push_parts(out: &mut Vec<u8>, parts: &[&[u8]]) -> Result<(), AllocError>
     ensures { OnOk result
         (out.new.items ≡ out.old.items ++ flat_map (λ part. comma ∷ part.now) parts.now) }
@@ -65,7 +65,7 @@ fn push_parts(out: &mut Vec<u8>, parts: &[&[u8]]) -> Result<(), AllocError>
     Ok(())
 }
 
-/// Appends a comma where the path says that it has no flavor.
+/// Appends a comma if the path is marked as having no flavor.
 fn push_mark(out: &mut Vec<u8>, tally: &Tally<'_>) -> Result<(), AllocError>
     ensures { let mark = nat_lt 0 tally.now.empties && (tally.now.flavors == 0) in
         OnOk result (out.new.items ≡ out.old.items ++ (if mark then comma ∷ [] else [])) }
@@ -76,7 +76,7 @@ fn push_mark(out: &mut Vec<u8>, tally: &Tally<'_>) -> Result<(), AllocError>
     Ok(())
 }
 
-/// Appends the flavors among the parts, each once, in byte order.
+/// Appends the flavors among the parts, in byte order and without repetition.
 fn push_flavors(
     alloc: Global,
     out: &mut Vec<u8>,
@@ -107,7 +107,7 @@ fn push_subpackage(out: &mut Vec<u8>, subpackage: Option<&[u8]>) -> Result<(), A
     Ok(())
 }
 
-/// The canonical text of a directory and the parts behind it.
+/// The canonical form of a directory and the parts after it.
 fn write_canonical(
     alloc: Global,
     capacity: usize,
@@ -128,7 +128,7 @@ fn write_canonical(
     Ok(text)
 }
 
-/// The canonical text of a text that is cut at its first comma.
+/// The canonical form of a text that is split at its first comma.
 fn read_parts(
     alloc: Global,
     text: &[u8],
@@ -156,7 +156,7 @@ fn read_parts(
     Ok(write_canonical(alloc, text.len(), directory, parts, &tally)?)
 }
 
-/// The canonical text of what the text spells.
+/// The canonical form of the path that the text spells.
 pub(crate) fn canonical_text(alloc: Global, text: &[u8]) -> Result<SharedBytes, PathFault>
     ensures { IsRightUnless PathFault.Memory result (grammar.path_of text.now) }
 {
@@ -175,7 +175,7 @@ pub(crate) fn canonical_text(alloc: Global, text: &[u8]) -> Result<SharedBytes, 
     }
 }
 
-/// How many bytes of a path stand before the comma and its subpackage: all, where it has none.
+/// The number of bytes of a path before the comma and its subpackage; all if it has none.
 pub(crate) fn len_without_subpackage(text: &[u8]) -> usize
     requires { grammar.IsPath text.now }
     ensures text { take result text.now ≡ grammar.without_subpackage text.now }

@@ -1,4 +1,4 @@
--- A list of parts that is read from the left: what one more part changes.
+-- A list of parts that is parsed from the left: the effect of one more part.
 use Rattle.std.proofs.Common.{◌≡◌, ◌++◌, Bool, true, false, cond, List, [], ◌∷◌, map, filter_map, Option, Some, None, Ok, Err, refl, sym, ap, ◌∙◌, append_assoc}
 use Rattle.std.specs.List.{list_all}
 use Rattle.faults.specs.Answers.{first_given, unless_fault}
@@ -26,7 +26,7 @@ module _ (left : List Text) (first : Text) (behind : List Text) (cut : left ≡ 
   pub first_given_more : {F : Type 0} (f : Text → Option F) (all : Option F) → all ≡ first_given f left → f first ≡ None → all ≡ first_given f behind
   first_given_more f all so_far none = so_far ∙ (ap (first_given f) cut ∙ rw none refl)
 
--- ---- what an answer tells of the test that it rests on
+-- ---- what a result says about its test
 
 pub ok_from_test : {X F : Type 0} (b : Bool) (x y : X) (e : F) → cond b (Ok x) (Err e) ≡ Ok y → (b ≡ true) × (y ≡ x)
 ok_from_test true x y e h = (refl, cc)

@@ -11,7 +11,7 @@ use Rattle.pkgspec.specs.Spec.{Alternative, Bound, Demand}
 use Rattle.pkgspec.specs.declared.bound.Relation.{Relation}
 use Rattle.pkgspec.specs.declared.bound.Relation.TheVariants.{AtLeast, Above, AtMost, Below, Equal}
 
--- the relation allows a version that compares so with the bound's own
+-- whether the relation allows a version that compares like this with the bound's version
 abbrev pub allows : Relation → Ordering → Bool
 allows AtLeast o = is_ge o
 allows Above o = is_gt o
@@ -19,23 +19,23 @@ allows AtMost o = is_le o
 allows Below o = is_lt o
 allows Equal o = is_eq o
 
--- the version stands to the bound's own, in the order of versions, as the bound's relation allows
+-- whether the version satisfies the bound
 abbrev pub holds : Text → Bound → Bool
 holds version bound = allows bound.relation (version_cmp version bound.version)
 
--- the flavor is there exactly if it has to be
+-- whether the flavor is present if and only if it has to be
 abbrev pub is_met_by : List Text → Demand → Bool
 is_met_by flavors demand =
     if demand.is_present
     then is_among flavors demand.flavor
     else not (is_among flavors demand.flavor)
 
--- the stem is that of the name, or `STEM`, which stands for each
+-- whether the stem is that of the name, or `STEM`, which fits each name
 abbrev pub is_stem_of : Text → Text → Bool
 is_stem_of stem name = bytes_eq stem (codes "STEM") || bytes_eq stem (stem_of name)
 
--- the alternative's stem is that of the name, all bounds hold of the name's version, and its
--- flavors meet all demands
+-- whether the alternative's stem is that of the name, the name's version satisfies all bounds, and
+-- its flavors meet all demands
 abbrev pub alternative_matches : Text → Alternative → Bool
 alternative_matches name a =
     is_stem_of a.stem name

@@ -1,4 +1,4 @@
--- What a text says as a spec: alternatives, each with a stem, bounds of the version, and demands on
+-- The contents of a spec: alternatives, each with a stem, bounds on the version, and demands on
 -- flavors.
 use Rattle.std.specs.Prelude.{ℕ, Bool, ◌&&◌, ◌||◌, not, nat_lt, List, [], ◌∷◌, length, drop, map, filter_map, codes, Option, Some, None, Result, is_some, if◌then◌else◌}
 use Rattle.std.specs.Char.{is_ascii_digit}
@@ -16,17 +16,17 @@ use Rattle.pkgspec.specs.declared.bound.Relation.TheVariants.{AtLeast, Above, At
 use Rattle.pkgspec.specs.declared.SpecFault.{SpecFault}
 use Rattle.pkgspec.specs.declared.SpecFault.TheVariants.{Empty, TooLong, BadByte, BadBound}
 
--- what a bound wants of a version: how it has to stand to the bound's own
+-- a bound on a version: how it has to compare with the bound's version
 pub record Bound : Type 0 where
   pub relation : Relation
   pub version : Text
 
--- a flavor that has to be there, or must not be
+-- a flavor that has to be present, or absent
 pub record Demand : Type 0 where
   pub flavor : Text
   pub is_present : Bool
 
--- what an alternative wants of a name: its stem, bounds of its version, and demands on its flavors
+-- an alternative: the name's stem, bounds on its version, and demands on its flavors
 pub record Alternative : Type 0 where
   pub stem : Text
   pub bounds : List Bound
@@ -34,31 +34,29 @@ pub record Alternative : Type 0 where
 
 -- ---- the parts of an alternative
 
--- a byte with which bounds begin: a digit or one of these four
+-- a byte that can begin bounds: a digit or one of these four
 abbrev pub begins_bounds : ℕ → Bool
 begins_bounds b = is_one_of (codes "*<>=") b || is_ascii_digit b
 
--- the stem, the bounds in the place of a version, and the flavors of an alternative, if it has
--- bounds
+-- the stem, the bounds in place of a version, and the flavors of an alternative, if it has bounds
 abbrev pub parts_of : Text → Option name.Parts
 parts_of text = parts_by begins_bounds text
 
--- the stem of an alternative, which is all of it where it has no bounds
+-- the stem of an alternative, which is all of it if it has no bounds
 abbrev pub stem_of : Text → Text
 stem_of text = option_map_or (λ p. p.stem) (parts_of text) text
 
--- the texts of an alternative's bounds, which stand between commas; none where it has no bounds
+-- the texts of an alternative's bounds, separated by commas; none if it has no bounds
 abbrev pub bound_texts : Text → List Text
 bound_texts text = option_map_or (λ p. pieces_at comma p.version) (parts_of text) []
 
--- the texts of an alternative's demands on flavors, which stand between dashes behind the bounds,
--- if there are any
+-- the texts of an alternative's demands on flavors, after the bounds, separated by dashes
 abbrev pub demand_texts : Text → List Text
 demand_texts text = option_map_or (λ p. p.flavors) (parts_of text) []
 
 -- ---- bounds and demands
 
--- the operator of a bound, and what stands behind it; no operator means equality
+-- the operator of a bound, and the text after it; no operator means equality
 abbrev pub relation_of : Text → Relation × Text
 relation_of text =
     if begins_with (codes ">=") text then (AtLeast, drop 2 text)
@@ -68,41 +66,42 @@ relation_of text =
     else if begins_with (codes "=") text then (Equal, drop 1 text)
     else (Equal, text)
 
--- the bound that a text is, if it is a version, alone or behind an operator
+-- the bound that a text spells, if it is a version with or without an operator before it
 abbrev pub bound_of : Text → Option Bound
 bound_of text =
     if is_version (relation_of text).1
     then Some (record { relation = (relation_of text).0; version = (relation_of text).1 })
     else None
 
--- the text is a star, which wants nothing of a version
+-- whether the text is a star, which allows every version
 abbrev pub is_star : Text → Bool
 is_star text = bytes_eq text (codes "*")
 
--- the text may stand among bounds: it is a star, or a bound
+-- whether the text is a star or a bound
 abbrev pub is_bound : Text → Bool
 is_bound text = is_star text || is_some (bound_of text)
 
--- a mark stands before the flavor, which says that it must not be there
+-- whether the flavor has a mark before it, which means that it must be absent
 abbrev pub is_denied : Text → Bool
 is_denied text = begins_with (codes "!") text
 
--- the flavor that a text is about, and whether it has to be there
+-- the flavor that a text names, and whether it has to be present
 abbrev pub demand_of : Text → Demand
 demand_of text = record {
   flavor = if is_denied text then drop 1 text else text;
   is_present = not (is_denied text);
 }
 
--- the flavor that the text is about is not empty and has bytes of a name alone
+-- whether the flavor that the text names is not empty, and has only bytes of a name
 abbrev pub is_demand : Text → Bool
 is_demand text =
     not (is_empty (demand_of text).flavor) && list_all is_name_byte (demand_of text).flavor
 
 -- ---- what a text spells
 
--- the fault of an alternative, the first that applies: it is empty; its stem has a byte that no
--- name has; a bound is none; a flavor is empty or has a byte that no name has
+-- the fault of an alternative, the first that applies: it is empty; its stem has a byte that isn't
+-- allowed in a name; a bound is malformed; a flavor is empty or has a byte that isn't allowed in a
+-- name
 abbrev pub alternative_fault : Text → Option SpecFault
 alternative_fault text = first_that_applies (
     (is_empty text, Empty)
@@ -111,7 +110,7 @@ alternative_fault text = first_that_applies (
     ∷ (not (list_all is_demand (demand_texts text)), BadByte)
     ∷ [])
 
--- the alternative that a text spells, where it has no fault; a star wants nothing, and is left out
+-- the alternative that a text without a fault spells; a star allows everything, and is omitted
 abbrev pub alternative_of : Text → Alternative
 alternative_of text = record {
   stem = stem_of text;
@@ -119,14 +118,14 @@ alternative_of text = record {
   demands = map demand_of (demand_texts text);
 }
 
--- the fault of a text that is no spec, the first that applies: it is empty; it has more than 1,024
--- bytes; that of the first alternative from the left that has one
+-- the fault of a text that is not a spec, the first that applies: it is empty; it has more than
+-- 1,024 bytes; the first fault of an alternative from the left
 abbrev pub fault_of : Text → Option SpecFault
 fault_of text =
     option_or
     (first_that_applies ((is_empty text, Empty) ∷ (nat_lt 1024 (length text), TooLong) ∷ []))
     (first_given alternative_fault (pieces_at bar text))
 
--- the alternatives that a text spells, which stand between bars, or its fault
+-- the alternatives that a text spells, separated by bars, or its fault
 abbrev pub spec_of : Text → Result (List Alternative) SpecFault
 spec_of text = unless_fault (fault_of text) (map alternative_of (pieces_at bar text))

@@ -80,7 +80,7 @@ impl Part for Alternative {
     }
 }
 
-/// Whether the stem is the name's. `STEM` is each name's, since it meets the name of the very path
+/// Whether the stem is the name's. `STEM` fits each name: it is used for the name at the very path
 /// that is depended on.
 fn is_stem_of(stem: &[u8], name: &PkgName) -> bool
     ensures { result ≡ is_stem_of stem.now name.now }

@@ -1,4 +1,4 @@
-//! A bound of the version.
+//! A bound on the version.
 ghost use Rattle.std.specs.Prelude.{◌≡◌};
 ghost use Rattle.faults.specs.Answers.{IsRightUnless};
 ghost use Rattle.pkgspec.specs.Matching.{allows, holds};
@@ -13,7 +13,7 @@ use std::alloc::Global;
 use std::cmp::Ordering;
 use std::marker::Model;
 
-/// How a version has to stand to that of a bound.
+/// How a version has to compare with that of a bound.
 #[derive(Clone, Copy)]
 pub(crate) enum Relation {
     AtLeast,
@@ -55,7 +55,7 @@ impl Model for Bound {
 }
 
 impl Bound {
-    /// What the text says as a bound. A star, which always holds, says none.
+    /// The bound that the text spells. None for a star, which always holds.
     pub fn parse(alloc: Global, text: &[u8]) -> Result<Option<Bound>, SpecFault>
         ensures { IsRightUnless SpecFault.Memory result (bound_or_fault text.now) }
     {
@@ -88,7 +88,7 @@ impl Part for Bound {
     }
 }
 
-/// The operator in front, and what stands behind it. A version alone means equality.
+/// The operator at the front, and the text after it. No operator means equality.
 fn split_relation(text: &[u8]) -> (Relation, &[u8])
     ensures relation { result.0 ≡ (relation_of text.now).0 }
     ensures version { result.1.now ≡ (relation_of text.now).1 }

@@ -12,7 +12,7 @@ use pkgname::{Pieces, has_name_bytes};
 use std::alloc::Global;
 use std::marker::Model;
 
-/// A flavor that has to be there, or must not be.
+/// A flavor that has to be present, or absent.
 #[derive(Drop)]
 pub(crate) struct Demand {
     flavor: Vec<u8>,

@@ -16,14 +16,14 @@ mod spec;
 
 pub use crate::spec::Spec;
 
-/// Why a text is no spec. The whole text is tested first, for `Empty` and then for `TooLong`. Then
-/// the alternatives are read from the left, and in each these are tested in this order: that it is
-/// empty (`Empty`), its stem (`BadByte`), its bounds (`BadBound`), its flavors (`BadByte`). The
-/// first fault is the answer, and `Memory` may stand in place of any answer. No fault has a place.
-/// The numbers, the limit and the order of the tests are this project's own.
+/// Why a text is not a spec. First the whole text is tested, for `Empty` and then for `TooLong`.
+/// Then the alternatives are parsed from the left, each tested in this order: whether it is empty
+/// (`Empty`), its stem (`BadByte`), its bounds (`BadBound`), its flavors (`BadByte`). The first
+/// fault is returned; `Memory` may be returned in any case. No fault has a place. The numbers, the
+/// limit and the order of the tests are this project's own.
 #[derive(Clone, Copy, Debug, PartialEq, Eq, Error)]
 pub enum SpecFault {
-    /// Number 1: a growth was refused. It says nothing of the text.
+    /// Number 1: an allocation failed. Says nothing about the text.
     #[error("out of memory")]
     Memory,
     /// Number 301: the text is empty, or one of its alternatives is.
@@ -32,11 +32,12 @@ pub enum SpecFault {
     /// Number 304: the text has more than 1,024 bytes.
     #[error("the spec has more than 1024 bytes")]
     TooLong,
-    /// Number 303: a stem or a flavor has a byte that no name has, or a flavor is empty.
-    #[error("a stem or a flavor has a byte that may not stand there, or a flavor is empty")]
+    /// Number 303: a stem or a flavor has a byte that isn't allowed in a name, or a flavor is
+    /// empty.
+    #[error("a stem or a flavor has a byte that isn't allowed, or a flavor is empty")]
     BadByte,
-    /// Number 302: a bound is neither `*` nor a version, alone or behind one operator.
-    #[error("a bound is neither a star nor a version, alone or behind one operator")]
+    /// Number 302: a bound is neither `*` nor a version with at most one operator before it.
+    #[error("a bound is neither a star nor a version, alone or after one operator")]
     BadBound,
 }
 

@@ -1,9 +1,9 @@
-//! The parts of a spec, and copies of many.
+//! The parts of a spec, and copies of lists of them.
 ghost use Rattle.std.specs.Prelude.{◌≡◌, IfOk};
 
 use faults::Memory;
 
-/// A part of a spec that can be copied, where memory allows it.
+/// A part of a spec that can be copied, if memory allows it.
 pub(crate) trait Part: Drop {
     fn copy(&self) -> Result<Self, Memory>
         ensures { IfOk result (λ part. part ≡ self.now) };

@@ -1,4 +1,4 @@
-//! A spec, which contracts see as the list of its alternatives.
+//! A spec. Contracts see the list of its alternatives.
 ghost use Rattle.std.specs.Prelude.{◌≡◌, IfOk, vec_items};
 ghost use Rattle.faults.specs.Answers.{IsRightUnless, map_ok};
 ghost use Rattle.faults.specs.Bytes.{bar};
@@ -15,10 +15,10 @@ use pkgname::{Pieces, PkgName};
 use std::alloc::Global;
 use std::marker::Model;
 
-/// The most bytes that a spec may have.
+/// The maximum length of a spec in bytes.
 const LONGEST: usize = 1024;
 
-/// Which names will do: one or more alternatives, of which a name has to match one.
+/// A spec: one or more alternatives, of which a name has to match at least one.
 #[derive(Drop)]
 pub struct Spec {
     alternatives: Vec<Alternative>,
@@ -34,16 +34,16 @@ impl Model for Spec {
 }
 
 impl Spec {
-    /// Reads the whole text, of 1 to 1,024 bytes, as a spec, or answers its first fault. The form
+    /// Parses the whole text, of 1 to 1,024 bytes, as a spec, or returns its first fault. The form
     /// is that of packages-specs(7): alternatives joined by `|`, each `stem[-bounds[-flavors]]`.
     ///
-    /// - The bounds begin behind the first dash, other than the first byte, that a digit or one of
-    ///   `*`, `<`, `>` and `=` follows, and go to the next dash or the end. Without such a dash the
-    ///   whole alternative is the stem, and wants nothing else.
-    /// - The bounds are joined by `,`. Each is `*`, which always holds, or a version behind `>=`,
-    ///   `>`, `<=`, `<` or `=`, or a version alone, which means `=`.
-    /// - The flavors are joined by `-`. A `!` before one says that it has to be absent, and one
-    ///   without has to be present.
+    /// - The bounds begin after the first dash, not counting the first byte, that is followed by a
+    ///   digit or one of `*`, `<`, `>` and `=`, and end at the next dash or the end. Without such a
+    ///   dash the whole alternative is the stem, and nothing else is required.
+    /// - The bounds are joined by `,`. Each is `*`, which always holds, or a version after `>=`,
+    ///   `>`, `<=`, `<` or `=`. A version without an operator means `=`.
+    /// - The flavors are joined by `-`. A flavor after `!` has to be absent, and one without it has
+    ///   to be present.
     pub fn parse(alloc: Global, text: &[u8]) -> Result<Spec, SpecFault>
         ensures { IsRightUnless SpecFault.Memory result (spec_of text.now) }
     {
@@ -57,11 +57,11 @@ impl Spec {
         Ok(Spec { alternatives })
     }
 
-    /// Whether some alternative matches the name. By packages-specs(7) an alternative does where
-    /// its stem is the name's, all its bounds hold of the name's version, and each flavor that it
-    /// names is present or absent as it says. Three points are this project's own: the stem `STEM`
-    /// is that of each name; bounds go by the order of `Version::compare`, so that `q-=1.2` matches
-    /// `q-1.02`; and a `*` is never a wild character of a stem. It takes no memory.
+    /// Whether some alternative matches the name. By packages-specs(7) an alternative matches if
+    /// its stem is the name's, all its bounds hold for the name's version, and each flavor that it
+    /// names is present or absent as it requires. Three points are this project's own: the stem
+    /// `STEM` fits each name; bounds use the order of `Version::compare`, so that `q-=1.2` matches
+    /// `q-1.02`; and `*` in a stem is never a wildcard. Does not allocate.
     pub fn matches(&self, name: &PkgName) -> bool
         ensures { result ≡ matches self.now name.now }
     {

@@ -12,15 +12,15 @@ use Rattle.std.specs.List.{list_all, list_any, range_with_len}
 use Rattle.std.specs.Str.{bytes_eq}
 use Rattle.faults.specs.Answers.{first_that_applies}
 use Rattle.faults.specs.Bytes.{Text}
-use Rattle.agreement.specs.Quorums.{Members, Quorums, is_majority, named_in, with_member}
-use Rattle.agreement.specs.Member as members
-use Rattle.agreement.specs.Member.{Facts, facts_of, no_facts}
-use Rattle.agreement.specs.Messages as messages
-use Rattle.agreement.specs.Claims.{claim_same}
-use Rattle.agreement.specs.declared.claim.Claim.{Claim}
-use Rattle.agreement.specs.Step.{Outcome, on_agreed, on_ask, on_vote}
-use Rattle.agreement.specs.Noted.{IsClosedWhereHeld}
-use Rattle.agreement.proofs.Restored.{message_noted}
+use Rattle.claims.specs.Quorums.{Members, Quorums, is_majority, named_in, with_member}
+use Rattle.claims.specs.Member as members
+use Rattle.claims.specs.Member.{Facts, facts_of, no_facts}
+use Rattle.claims.specs.Messages as messages
+use Rattle.claims.specs.Claims.{claim_same}
+use Rattle.claims.specs.declared.claim.Claim.{Claim}
+use Rattle.claims.specs.Step.{Outcome, on_agreed, on_ask, on_vote}
+use Rattle.claims.specs.Noted.{IsClosedWhereHeld}
+use Rattle.claims.proofs.Restored.{message_noted}
 use Rattle.ballots.specs.InTheAgreement.{said}
 use Rattle.ballots.specs.Pledge.{HasPromised}
 use Rattle.ballots.specs.declared.message.Body.{Body}
@@ -41,7 +41,7 @@ use Rattle.protocol.specs.declared.refusal.Refusal.{Refusal}
 use Rattle.protocol.proofs.Heard.{IsFit, IsFrom, message_fits}
 use Rattle.protocol.proofs.TheTheory.{IsSaidBy, IsSaidByAny, IsWithin, outcome_is, said_again}
 
--- what is in a range from 0 on is below its length
+-- an element of a range from a on is below a plus the length
 below_range : (a n k : ℕ) → list_any (λ j. j == k) (range_with_len a n) ≡ true → k < a + n
 below_range a zero k e = absurd (false≢true e)
 below_range a (suc n) k e =
@@ -50,7 +50,7 @@ below_range a (suc n) k e =
     (λ rest. let below = below_range (a + 1) n k rest in omega (arith, below))
     (or_cases (a == k) _ e)
 
--- members that are named in order of number are below n
+-- members in a list of n by number are below n
 members_below : (n : ℕ) (S : Members) (k : ℕ) → named_in (members_in n S) k ≡ true → k < n
 members_below n S k e =
     let found = sym (any-filter_same (λ j. j == k) S (S k) (λ j t. ap S (eqb-true j k t))
@@ -65,7 +65,7 @@ joined_of (Some (Gathering c joined k)) = joined
 joined_of (Some (Building c)) = []
 joined_of (Some (Voting b joined)) = joined
 
--- an open claim counts members below n
+-- an open claim counts only members below n
 progress_within : (n : ℕ) (p : Progress) → progress_of n (stage_of p) ≡ Some p
     → IsWithin n (stage_of p)
 progress_within n (Gathering c joined k) e =
@@ -74,12 +74,12 @@ progress_within n (Building c) e = tt
 progress_within n (Voting b joined) e =
     λ m t. members_below n (named_in joined) m (ap (λ xs. named_in xs m) (ap joined_of e) ∙ t)
 
--- what a member is for a unit, as far as its claim goes
+-- a member's view of a unit, as far as its claim goes
 pub record IsSeen (s : State) (u : ℕ) : Type 0 where
   pub within : IsWithin (length s.weights) (view s u).stage
   pub closed : IsClosedWhereHeld (view s u).held (view s u).stage
 
--- who holds, or has no claim
+-- a member either doesn't hold, or has no open claim
 closed_by : {V : Type 0} (h : Option V) → h ≡ None → (stage : members.Stage V)
     → IsClosedWhereHeld h stage
 closed_by {V} h e stage = let P : Option V
@@ -89,21 +89,21 @@ closed_closed : {V : Type 0} (h : Option V) → IsClosedWhereHeld h members.Clos
 closed_closed None = tt
 closed_closed (Some v) = refl
 
--- by the claim that is open, for this unit or another
+-- for an open claim, for this unit or another
 pub seen_by : (s : State) (u : ℕ) (claim : Option OpenClaim) → s.claim ≡ claim
     → ((o : OpenClaim) → s.claim ≡ Some o → IsOpen s o) → IsSeen s u
 seen_by s u None e holds =
     let P : Option OpenClaim
     → Type 0 = λ claim. IsWithin (length s.weights)
-    (Rattle.agreement.specs.Nodes.stage_at (option_map claim_of claim) u) × IsClosedWhereHeld
-    (facts_at s u).held (Rattle.agreement.specs.Nodes.stage_at (option_map claim_of claim) u) in
+    (Rattle.claims.specs.Nodes.stage_at (option_map claim_of claim) u) × IsClosedWhereHeld
+    (facts_at s u).held (Rattle.claims.specs.Nodes.stage_at (option_map claim_of claim) u) in
     let both = subst P (sym e) (tt, closed_closed (facts_at s u).held) in
     record { within = both.0; closed = both.1 }
 seen_by s u (Some o) e holds =
     let P : Option OpenClaim
     → Type 0 = λ claim. IsWithin (length s.weights)
-    (Rattle.agreement.specs.Nodes.stage_at (option_map claim_of claim) u) × IsClosedWhereHeld
-    (facts_at s u).held (Rattle.agreement.specs.Nodes.stage_at (option_map claim_of claim) u) in
+    (Rattle.claims.specs.Nodes.stage_at (option_map claim_of claim) u) × IsClosedWhereHeld
+    (facts_at s u).held (Rattle.claims.specs.Nodes.stage_at (option_map claim_of claim) u) in
     let Q : members.Stage Value
     → Type 0 = λ stage. IsWithin (length s.weights) stage × IsClosedWhereHeld
     (facts_at s u).held stage in
@@ -126,7 +126,7 @@ named_is s u path e =
     Rattle.engine.specs.Division.no_unit e in
     (at.0, (bytes_eq-Decides (name_at s u) path).0 at.1)
 
--- the sender is a member where the message says who it is
+-- the sender is a member, if the message names it
 from_member : (n from : ℕ) → from < n → (body : Body Value) → IsFrom n (said from body)
 from_member n from lt (Offer c) = tt
 from_member n from lt (Promise c report) = lt
@@ -136,7 +136,7 @@ from_member n from lt (Agreed v) = tt
 from_member n from lt Ask = tt
 from_member n from lt (Nay c promised) = tt
 
--- what the theory's member does on a message of a member about a unit
+-- the outcome of the theory's member for a message from a member about a unit
 pub fits : (s : State) (m : Message Value) (u : ℕ) → IsMember s
     → number_named s.division m.path ≡ Some u → m.sender < length s.weights
     → IsFit (length s.weights) s.me (outcome_of s u m.sender m.body)
@@ -149,7 +149,7 @@ fits s m u is named from =
     is.pledged) (is_majority s.weights) (said m.sender m.body)
     (from_member (length s.weights) m.sender from m.body)
 
--- a message of a member about a unit
+-- the answer to a message from a member about a unit
 pub heard_is : (s : State) (m : Message Value) (u : ℕ) → IsMember s
     → number_named s.division m.path ≡ Some u → m.sender < length s.weights
     → IsOutcome s u (outcome_of s u m.sender m.body) (hears s u m.sender m.body)
@@ -165,39 +165,39 @@ heard_is s m u is named from =
     (message_noted Value (is_majority s.weights) x seen.closed s.me (said m.sender m.body)).facts
     fit.up fit.within fit.by
 
--- ---- from an answer to what was tested
+-- ---- from an answer to the tests that passed
 
--- an answer is given where nothing is refused
+-- if there is an answer, nothing was refused
 pub not_refused : (r : Option Refusal) (x : Result Answer Refusal) (a : Answer) → unless r x ≡ Ok a
     → (r ≡ None) × (x ≡ Ok a)
 not_refused None x a e = (refl, e)
 not_refused (Some f) x a e = absurd (let no : Err f ≡ Ok a = e in cc)
 
--- and where there is a unit
+-- if there is an answer, there is a unit
 pub has_unit : (f : Refusal) (g : ℕ → Result Answer Refusal) (u : Option ℕ) (a : Answer)
     → at_unit f g u ≡ Ok a → (v : ℕ) × (u ≡ Some v) × (g v ≡ Ok a)
 has_unit f g None a e = absurd (let no : Err f ≡ Ok a = e in cc)
 has_unit f g (Some v) a e = (v, refl, e)
 
--- the answer of a result, which is read only where it is one
+-- the answer in a result; read only if it is an answer
 abbrev pub answer_in : Answer → Result Answer Refusal → Answer
 answer_in a (Ok b) = b
 answer_in a (Err e) = a
 
--- no test of a table holds before the rest of it
+-- if no test of a table applies, the first doesn't, and none of the rest does
 no_first : (b : Bool) (f : Refusal) (rest : Option Refusal) → (if b then Some f else rest) ≡ None
     → (b ≡ false) × (rest ≡ None)
 no_first true f rest e = absurd (let no : Some f ≡ None = e in cc)
 no_first false f rest e = (refl, e)
 
--- what is not false is true
+-- if the negation is false, the test is true
 not_not : (b : Bool) → not b ≡ false → b ≡ true
 not_not true e = refl
 not_not false e = absurd (false≢true (sym e))
 
--- ---- what goes out
+-- ---- what is sent
 
--- somebody gets what is said, where there is a receiver
+-- what is said has a receiver, if the list of receivers isn't empty
 gets : (s : State) (u : ℕ) (y : messages.Message Value) → IsSaidBy s.me y → (to : List ℕ)
     → (to ≡ [] → ⊥)
     → Any (λ x. said s.me x.message.body ≡ y) (sends_of s u to (Some y))
@@ -211,23 +211,23 @@ gets s u y by (k ∷ ks) some = (
       y by,
 )
 
--- where there is a member, all are some
+-- if there is a member, the list of all members isn't empty
 pub all_are_some : (n : ℕ) → 0 < n → range_with_len 0 n ≡ [] → ⊥
 all_are_some zero lt e = omega (arith, lt)
 all_are_some (suc n) lt e = let no : 0 ∷ range_with_len 1 n ≡ [] = e in cc
 
--- Whether nothing is said, or only what may go to nobody.
+-- Whether nothing is said, or only what may have no receiver.
 abbrev pub is_quiet : Option (messages.Message Value) → Bool
 is_quiet None = true
 is_quiet (Some y) = not (must_go_out y)
 
--- then there is nothing that has to go out
+-- then there is nothing that must be sent
 quiet_goes : (said : Option (messages.Message Value)) (y : messages.Message Value)
     → is_quiet said ≡ true → said ≡ Some y → must_go_out y ≡ true → ⊥
 quiet_goes said y quiet e must =
     let loud = sym quiet ∙ (ap is_quiet e ∙ ap not must) in false≢true (sym loud)
 
--- votes, questions, what is agreed and refusals are answered quietly
+-- votes, questions, agreed values and rejections are answered quietly
 vote_is_quiet : (enough : Quorums) (x : members.Member Value) (stage : members.Stage Value) (m : ℕ)
     (c : Claim) → is_quiet (on_vote enough x stage m c).send ≡ true
 vote_is_quiet enough x members.Closed m c = refl
@@ -252,7 +252,7 @@ said_some : (m : ℕ) (said : Option (messages.Message Value)) (y : messages.Mes
     → said ≡ Some y → IsSaidByAny m said → IsSaidBy m y
 said_some m said y e by = subst (IsSaidByAny m) e by
 
--- what has to go out does, where there is a receiver
+-- what must be sent is sent, if there is a receiver
 pub loud_goes : (s : State) (u host : ℕ) (to : List ℕ) (o : Outcome Value) → IsSaidByAny s.me o.send
     → (to ≡ [] → ⊥) → GoesOut s o (answered s u host to o)
 loud_goes s u host to o by some y e must =
@@ -260,12 +260,12 @@ loud_goes s u host to o by some y e must =
     → Type 0 = λ send. Any (λ x. said s.me x.message.body ≡ y) (sends_of s u to send) in
     subst P (sym e) (gets s u y (said_some s.me o.send y e by) to some)
 
--- and where nothing has to
+-- this holds trivially if nothing must be sent
 pub quiet_is_out : (s : State) (u host : ℕ) (to : List ℕ) (o : Outcome Value)
     → is_quiet o.send ≡ true → GoesOut s o (answered s u host to o)
 quiet_is_out s u host to o quiet y e must = absurd (quiet_goes o.send y quiet e must)
 
--- so it is with each message
+-- so it holds for each message
 goes_out : (s : State) (u from : ℕ) → 0 < length s.weights → (body : Body Value)
     → IsSaidByAny s.me (outcome_of s u from body).send
     → GoesOut s (outcome_of s u from body) (hears s u from body)
@@ -292,7 +292,7 @@ goes_out s u from some (Nay c promised) by =
 
 -- ---- the law
 
--- of all that was tested it matters that the sender is a member
+-- of the tests of the header, what matters is that the sender is a member
 pub from_header : (n : ℕ) (m : Message Value) (a b : Bool) (rest : List ℕ) (x y z : Refusal)
     → first_that_applies ((a, x) ∷ (not (list_all (λ k. nat_lt k n) (m.sender ∷ rest)), y) ∷ (b, z)
     ∷ []) ≡ None → m.sender < n
@@ -301,7 +301,7 @@ from_header n m a b rest x y z e =
     let all = not_not _ (no_first _ y _ later).0 in
     ltb-true m.sender n (and_parts _ _ all).0
 
--- a message that is answered is answered for its unit, and by what the theory's member does
+-- a message that is answered is about a unit, and answered as the theory's member does
 pub message_is : (s : State) (m : Message Value) (a : Answer) → IsMember s → heard s m ≡ Ok a
     → AnswersMessage s m a
 message_is s m a is e =

@@ -1,18 +1,18 @@
--- An input that is no message, where it is not refused, is answered as in the theory.
+-- An input that is not a message and is not refused is answered as in the theory.
 use Rattle.std.proofs.Common.{◌≡◌, ◌==◌, ◌<◌, ◌&&◌, ◌+◌, ◌*◌, not, ℕ, suc, Bool, true, false, List}
 use Rattle.std.proofs.Common.{[], ◌∷◌, Option, Some, None, Result, Ok, Err, arith, eqb-true, refl}
 use Rattle.std.proofs.Common.{sym, subst, ap, ◌∙◌, if◌then◌else◌, filter, length, nat_le}
 use Rattle.std.proofs.Common.{option_map, sum, IfSome}
 use Rattle.std.proofs.lemmas.Bool.{and_parts, cond-true, eq-eqb, false≢true, leb-true, ltb-false}
-use Rattle.agreement.specs.Quorums.{Members, Quorums, is_majority, named_in, weight}
-use Rattle.agreement.specs.Member as members
-use Rattle.agreement.specs.Member.{no_facts}
-use Rattle.agreement.specs.Step.{Outcome, on_built, on_failed, on_inquire, on_nudge, on_start}
-use Rattle.agreement.specs.Step as theory
-use Rattle.agreement.specs.declared.claim.Claim.{Claim}
-use Rattle.agreement.specs.Noted.{IsNoted}
-use Rattle.agreement.proofs.Restored.{answer_noted}
-use Rattle.agreement.specs.Nodes as nodes
+use Rattle.claims.specs.Quorums.{Members, Quorums, is_majority, named_in, weight}
+use Rattle.claims.specs.Member as members
+use Rattle.claims.specs.Member.{no_facts}
+use Rattle.claims.specs.Step.{Outcome, on_built, on_failed, on_inquire, on_nudge, on_start}
+use Rattle.claims.specs.Step as theory
+use Rattle.claims.specs.declared.claim.Claim.{Claim}
+use Rattle.claims.specs.Noted.{IsNoted}
+use Rattle.claims.proofs.Restored.{answer_noted}
+use Rattle.claims.specs.Nodes as nodes
 use Rattle.ballots.specs.Weights.{AreWeights, is_weight}
 use Rattle.std.proofs.lemmas.List.Sums.{sum_by-cons}
 use Rattle.std.proofs.lemmas.Map.Views.{any-filter_same}
@@ -26,7 +26,7 @@ use Rattle.engine.specs.Division.{no_unit, number_named, number_of}
 use Rattle.engine.specs.Units.{is_in}
 use Rattle.engine.proofs.Lists.{in_range}
 use Rattle.engine.proofs.Names.{name_is_found}
-use Rattle.listing.specs.Tree.{position_of}
+use Rattle.engine.specs.Tree.{position_of}
 use Rattle.protocol.specs.State.{OpenClaim, Progress, Gathering, Building, Voting, State, Value}
 use Rattle.protocol.specs.State.{name_at, unit_with}
 use Rattle.protocol.specs.InTheAgreement.{claim_of, stage_of, view}
@@ -51,7 +51,7 @@ use Rattle.protocol.proofs.TheTheory.{IsSaidByAny, IsWithin, outcome_is}
 use Rattle.protocol.proofs.Answering.{all_are_some, answer_in, has_unit, is_quiet, loud_goes}
 use Rattle.protocol.proofs.Answering.{not_refused, quiet_is_out, seen_by}
 
--- it is not a message, which comes by its place among what was sent
+-- it is not a delivery, which identifies a message by the number of messages sent after it
 abbrev pub IsLocal : theory.Input Value → Type 0
 IsLocal (theory.Deliver k) = ⊥
 IsLocal (theory.Start above) = Unit {0}
@@ -61,7 +61,7 @@ IsLocal theory.Nudge = Unit {0}
 IsLocal theory.Inquire = Unit {0}
 
 module _ (n me : ℕ) (x : members.Member Value) (up : x.up ≡ true) where
-  -- a claim that is opened fits
+  -- opening a claim
   start_fits : (h : Option Value) (above : ℕ) → IfSome (on_start me x h above) (IsFit n me)
   start_fits (Some v) above = tt
   start_fits None above = record { up = up; within = λ m e. absurd (false≢true e); by = tt }
@@ -74,7 +74,7 @@ module _ (n me : ℕ) (x : members.Member Value) (up : x.up ≡ true) where
       record { up = up; within = λ m e. absurd (false≢true e); by = tt }
   built_fits (members.Voting b S) v = tt
 
-  -- a claim that is dropped
+  -- dropping a claim
   failed_fits : (stage : members.Stage Value) → IfSome (on_failed x stage) (IsFit n me)
   failed_fits members.Closed = tt
   failed_fits (members.Gathering c S k) = tt
@@ -94,7 +94,7 @@ module _ (n me : ℕ) (x : members.Member Value) (up : x.up ≡ true) where
   inquire_fits (Some v) w = tt
   inquire_fits None w = record { up = up; within = w; by = tt }
 
-  -- whatever is asked, but for a message by its place
+  -- whatever is asked, except a delivery
   pub asked_fits : (enough : Quorums) (asks : theory.Input Value) → IsWithin n x.stage
       → IsLocal asks → IfSome (theory.answer enough me x [] asks) (IsFit n me)
   asked_fits enough (theory.Start above) w local = start_fits x.held above
@@ -104,12 +104,12 @@ module _ (n me : ℕ) (x : members.Member Value) (up : x.up ≡ true) where
   asked_fits enough (theory.Deliver k) w local = absurd local
   asked_fits enough theory.Inquire w local = inquire_fits x.held w
 
--- what holds of an outcome, if there is one, holds of this one
+-- what holds of an optional outcome holds of the outcome that is there
 pub of_this : {X : Type 0} (P : X → Type 0) (o : Option X) (x : X) → IfSome o P → o ≡ Some x → P x
 of_this P None x h e = absurd (let no : None ≡ Some x = e in cc)
 of_this P (Some y) x h e = subst (λ o. IfSome o P) e h
 
--- An input for a unit is answered as in the theory, to whomever it goes.
+-- An input for a unit is answered as in the theory, whoever the receivers are.
 pub asked_is : (s : State) (u host : ℕ) (to : List ℕ) (asks : theory.Input Value)
     (o : Outcome Value)
     → IsMember s → u < length s.facts → number_named s.division (name_at s u) ≡ Some u
@@ -127,14 +127,14 @@ asked_is s u host to asks o is lt named local e =
 
 -- ---- the law
 
--- an answer is made of an outcome
+-- an answer comes from an outcome
 pub by_outcome : (f : Refusal) (s : State) (u host : ℕ) (to : List ℕ) (o : Option (Outcome Value))
     (a : Answer) → answered_or f s u host to o ≡ Ok a
     → (outcome : Outcome Value) × (o ≡ Some outcome) × (answered s u host to outcome ≡ a)
 by_outcome f s u host to None a e = absurd (let no : Err f ≡ Ok a = e in cc)
 by_outcome f s u host to (Some o) a e = (o, refl, ap (answer_in a) e)
 
--- a unit that an input names is one
+-- a unit that an input names exists
 pub unit_is_one : (s : State) (path : Text) (u : ℕ) → unit_in s path ≡ Some u
     → u < length s.division.units
 unit_is_one s path u e = by_name (number_named s.division path) refl e
@@ -185,7 +185,7 @@ claim_is_answered s letter path host above u a is found e =
     (λ o eo by. loud_goes s u host (everyone s) o by (all_are_some (length s.weights) some))
     tested.1
 
--- a build, by how far the claim is
+-- a build, by the stage of the claim
 build_is_answered : (s : State) (path : Text) (given : Given) (u : ℕ) (a : Answer)
     (stage : members.Stage Value) → IsMember s → unit_in s path ≡ Some u → (view s u).stage ≡ stage
     → builds_under s u (host_in s.claim) given stage ≡ Ok a
@@ -206,7 +206,7 @@ build_is_answered s path given u a (members.Building c) is found at e =
     (λ o eo by. loud_goes s u (host_in s.claim) (everyone s) o by
     (all_are_some (length s.weights) some)) tested.1
 
--- nothing goes out where a claim is dropped
+-- nothing is sent when a claim is dropped
 failed_is_quiet : (x : members.Member Value) (stage : members.Stage Value)
     → IfSome (on_failed x stage) (λ o. is_quiet o.send ≡ true)
 failed_is_quiet x members.Closed = tt
@@ -214,13 +214,13 @@ failed_is_quiet x (members.Gathering c S k) = tt
 failed_is_quiet x (members.Building c) = refl
 failed_is_quiet x (members.Voting b S) = tt
 
--- a question goes to all others, who may be nobody
+-- a question goes to all others, of which there may be none
 inquire_is_quiet : (x : members.Member Value) (h : Option Value)
     → IfSome (on_inquire x h) (λ o. is_quiet o.send ≡ true)
 inquire_is_quiet x None = refl
 inquire_is_quiet x (Some v) = tt
 
--- a claim that is dropped
+-- dropping a claim
 failure_is_answered : (s : State) (path : Text) (u : ℕ) (a : Answer) → IsMember s
     → unit_in s path ≡ Some u → fails s u ≡ Ok a → AnswersAsked s u theory.Failed a
 failure_is_answered s path u a is found e =
@@ -244,7 +244,7 @@ pub without_job : (job : Option Task) (r : Result Answer Refusal) (a : Answer)
 without_job job (Err f) a e = absurd (let no : Err f ≡ Ok a = e in cc)
 without_job job (Ok b) a e = (b, refl, ap (answer_in a) e)
 
--- a job says nothing to the theory
+-- the theory doesn't see jobs
 with_a_job : (s : State) (u : ℕ) (b : Answer) (job : Option Task) → AnswersAsked s u theory.Nudge b
     → AnswersAsked s u theory.Nudge (record b { job = job })
 with_a_job s u b job h = record {
@@ -254,9 +254,9 @@ with_a_job s u b job h = record {
   out = h.out;
 }
 
--- ---- a nudge finds somebody to ask again
+-- ---- a nudge has a receiver
 
--- what all members weigh, where each is one of these
+-- a set that contains all members has the total weight
 all_weigh : (ws : List ℕ) (S : Members) → ((k : ℕ) → k < length ws → S k ≡ true)
     → weight ws S ≡ sum ws
 all_weigh [] S each = refl
@@ -266,7 +266,7 @@ all_weigh (w ∷ ws) S each =
     let total : sum (w ∷ ws) ≡ w + sum ws = sum_by-cons (λ x. x) w ws in
     omega (arith, first, rest, total)
 
--- members weigh something
+-- the total weight isn't zero
 they_weigh : (s : State) → IsMember s → 0 < sum s.weights
 they_weigh s is = by s.weights is.weights
   where
@@ -278,7 +278,8 @@ they_weigh s is = by s.weights is.weights
         let total : sum (w ∷ ws) ≡ w + sum ws = sum_by-cons (λ x. x) w ws in
         omega (arith, first, total)
 
--- what is not false is true, and of two that are not both true the second is given
+-- if the negation is false, the test is true; and of two tests that are not both true, the first is
+-- false if the second is true
 true_by : (b : Bool) → not b ≡ false → b ≡ true
 true_by true e = refl
 true_by false e = absurd (false≢true (sym e))
@@ -287,7 +288,7 @@ not_both : (a b : Bool) → false ≡ (a && b) → b ≡ true → a ≡ false
 not_both true b never t = absurd (false≢true (never ∙ t))
 not_both false b never t = refl
 
--- one that is there, and passes, is kept
+-- an element that passes is in the filtered list
 none_kept : (S : ℕ → Bool) (xs : List ℕ) (k : ℕ) → filter S xs ≡ []
     → list_any (λ j. j == k) xs ≡ true → S k ≡ false
 none_kept S xs k none among =
@@ -296,7 +297,7 @@ none_kept S xs k none among =
     ∙ kept in
     not_both (S k) _ no among
 
--- those that joined are no majority: somebody is missing
+-- those that joined are not a majority, so some member is missing
 some_are_missing : (s : State) (joined : List ℕ) → IsMember s
     → is_majority s.weights (named_in joined) ≡ false → missing s joined ≡ [] → ⊥
 some_are_missing s joined is short none =
@@ -309,7 +310,7 @@ some_are_missing s joined is short none =
     let less = ltb-false (sum s.weights) (2 * weight s.weights (named_in joined)) short in
     omega (arith, all, some, less)
 
--- a nudge while the claim waits for a build says nothing
+-- a nudge says nothing while the claim waits for a build
 building_is_quiet : (x : members.Member Value) (c : Claim) (stage : members.Stage Value)
     → stage ≡ members.Building c → IfSome (on_nudge x stage) (λ o. is_quiet o.send ≡ true)
 building_is_quiet x c stage e =
@@ -324,7 +325,7 @@ stage_is s o e =
     ap (λ claim. nodes.stage_at (option_map claim_of claim) o.unit) e
     ∙ cond-true (o.unit == o.unit) _ _ (eq-eqb o.unit o.unit refl)
 
--- a nudge reaches somebody, where it says something that has to go out
+-- a nudge has a receiver, if it says something that must be sent
 nudge_goes : (s : State) (o : OpenClaim) → IsMember s → IsOpen s o → s.claim ≡ Some o
     → (p : Progress) → o.progress ≡ p → (x : Outcome Value)
     → on_nudge (view s o.unit) (view s o.unit).stage ≡ Some x → IsSaidByAny s.me x.send
@@ -359,7 +360,7 @@ by_unit s input f g path asks a is_for answered e =
       answers = answered found.0 found.1 found.2;
     }
 
--- a nudge of the claim that is open
+-- a nudge of the open claim
 nudge_is_answered : (s : State) (claim : Option OpenClaim) (a : Answer) → IsMember s
     → s.claim ≡ claim → nudges s claim ≡ Ok a → AnswersInput s inputs.Nudge a
 nudge_is_answered s None a is at e = absurd (let no : Err refusals.NoClaim ≡ Ok a = e in cc)

@@ -1,11 +1,11 @@
--- Two trees, and what some members of them come to.
+-- Two trees, and members for the computed examples.
 use Rattle.std.specs.Prelude.{◌≡◌, refl, ℕ, zero, suc, Bool, true, false, List, [], ◌∷◌, Option}
 use Rattle.std.specs.Prelude.{None, Some, codes, map}
-use Rattle.agreement.specs.declared.claim.Claim.{Claim}
-use Rattle.agreement.specs.Votes.{Ballot}
-use Rattle.agreement.specs.Member.{Facts, no_facts}
+use Rattle.claims.specs.declared.claim.Claim.{Claim}
+use Rattle.claims.specs.Votes.{Ballot}
+use Rattle.claims.specs.Member.{Facts, no_facts}
 use Rattle.std.proofs.lemmas.Bool.{false≢true}
-use Rattle.listing.specs.Tree.{Tree, is_marked_at}
+use Rattle.engine.specs.Tree.{Tree, is_marked_at}
 use Rattle.engine.specs.Division.{Division}
 use Rattle.engine.specs.Ignored.{AreTheIgnored}
 use Rattle.engine.specs.Units.{AreUnits}
@@ -18,7 +18,7 @@ use Rattle.protocol.specs.Answers.{after}
 use Rattle.protocol.specs.Step.{hears}
 use Rattle.protocol.specs.declared.sends.Send.{Send}
 
--- one package, which is a unit by itself
+-- one package, which is a unit of its own
 abbrev pub one_package : Division
 one_package = record {
   tree = record {
@@ -63,7 +63,7 @@ two_packages = record {
 abbrev nothing : ℕ → Bool
 nothing p = false
 
--- where nothing is marked, nothing is ignored: the empty set holds the marked ones
+-- if nothing is marked, nothing is ignored: the empty set contains the marked packages
 free : (tree : Tree) → ((q : ℕ) → is_marked_at tree q ≡ true → ⊥) → AreTheIgnored tree nothing
 free tree unmarked p = (
   λ h. absurd (false≢true h),
@@ -100,15 +100,15 @@ three = 1 ∷ 1 ∷ 1 ∷ []
 abbrev pub heavy_last : List ℕ
 heavy_last = 1 ∷ 1 ∷ 3 ∷ []
 
--- the member of this number that knows nothing
+-- the member with this number that knows nothing
 abbrev pub newcomer : List ℕ → ℕ → State
 newcomer weights me = fresh one_package weights me
 
--- the claim of this round by this member
+-- the claim with this round and member
 abbrev pub claim : ℕ → ℕ → Claim
 claim round member = record { round = round; member = member }
 
--- the member with this fact of the package, and this claim open for it on host 3
+-- the member with these facts of the package, and this claim open for it on host 3
 abbrev pub known : State → Facts Value → Option Progress → State
 known s facts None = record s { facts = facts ∷ []; claim = None }
 known s facts (Some progress) =
@@ -118,11 +118,11 @@ known s facts (Some progress) =
           Some (record { unit = 0; host = 3; progress = progress });
     }
 
--- what a member knows that opened this round, and promised this claim
+-- the facts of a member that opened this round, and promised this claim
 abbrev pub promised : ℕ → Claim → Facts Value
 promised round c = record no_facts { opened = round; promised = Some c }
 
--- what a member knows that opened this round, and voted for this
+-- the facts of a member that opened this round, and voted for this ballot
 abbrev pub voted : ℕ → Ballot Value → Facts Value
 voted round b = record { opened = round; promised = Some b.claim; voted = Some b; held = None }
 
@@ -130,15 +130,15 @@ voted round b = record { opened = round; promised = Some b.claim; voted = Some b
 abbrev pub given : Given
 given = (codes "a/b", record { name = codes "x"; bytes = codes "abc" } ∷ []) ∷ []
 
--- the note on the package
+-- a note about the package
 abbrev pub note : Fact Value → Note Value
 note f = record { path = codes "a/b"; fact = f }
 
--- the member after messages of these senders
+-- the member after messages from these senders
 abbrev pub after_hearing : State → List (ℕ × Body Value) → State
 after_hearing s [] = s
 after_hearing s (m ∷ ms) = after_hearing (after s (hears s 0 m.0 m.1)) ms
 
--- who gets a message, and what it says
+-- the receiver of each message, and what it says
 abbrev pub said_to : List Send → List (ℕ × Body Value)
 said_to sends = map (λ x. (x.to, x.message.body)) sends

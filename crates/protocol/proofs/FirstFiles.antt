@@ -8,7 +8,7 @@ use Rattle.protocol.specs.Given.{Given}
 use Rattle.protocol.specs.Jobs.{files_for}
 use Rattle.protocol.specs.inside.First.{NoneHas}
 
--- files of a path are found just where its path is among those that have some
+-- files of a path are found if and only if the path is among those that have files
 found_among : (builds : Given) (path : Text)
     → is_some (find (λ g. bytes_eq g.0 path) builds) ≡ is_among (map (λ g. g.0) builds) path
 found_among [] path = refl
@@ -33,10 +33,10 @@ some_found builds path g some = (
   sym (ap (λ o. unwrap_or (option_map (λ g. g.1) o) []) some),
 )
 
--- ---- the first with a path
+-- ---- the first entry with a path
 
 module _ (builds : Given) (path : Text) where
-  -- none has it
+  -- no entry has the path
   pub none_has : NoneHas builds path (length builds) → is_among (map (λ g. g.0) builds) path ≡ false
   none_has none = none_found builds path (find_none builds none)
     where
@@ -50,7 +50,7 @@ module _ (builds : Given) (path : Text) where
           (each 0 g (omega arith) (omega arith))
           ∙ find_none gs (λ k d a b. each (suc k) d (omega (arith, a)) (omega (arith, b)))
 
-  -- this one is the first
+  -- this entry is the first
   pub first_has : (i : ℕ) (d : Text × List NamedFile) → i < length builds → NoneHas builds path i
       → bytes_eq (get_or builds i d).0 path ≡ true
       → (is_among (map (λ g. g.0) builds) path ≡ true)

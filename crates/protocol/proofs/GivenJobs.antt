@@ -1,11 +1,11 @@
--- Jobs, and the claims that they are given for.
+-- Jobs, and the claims for which they are given.
 use Rattle.std.proofs.Common.{◌≡◌, ℕ, Bool, true, false, List, [], ◌∷◌, length, Option, None, Some}
 use Rattle.std.proofs.Common.{Ok, Err, refl, sym, ap, subst, ◌∙◌, if◌then◌else◌}
 use Rattle.std.specs.Prelude.{unwrap_or}
 use Rattle.std.specs.Option.{ForSome}
-use Rattle.agreement.specs.Member as members
-use Rattle.agreement.specs.Step.{Outcome, on_built, on_nudge}
-use Rattle.agreement.specs.declared.claim.Claim.{Claim}
+use Rattle.claims.specs.Member as members
+use Rattle.claims.specs.Step.{Outcome, on_built, on_nudge}
+use Rattle.claims.specs.declared.claim.Claim.{Claim}
 use Rattle.ballots.specs.InTheAgreement.{is_building}
 use Rattle.claims.specs.Job.{Task}
 use Rattle.engine.specs.declared.Letter.{Letter}
@@ -46,9 +46,9 @@ jobs_stay s input a o c is answers open_is builds same =
     } in task)
     (deps_stay s a o.unit is.division.tree made.needs.within good.ready)
 
--- ---- a job is that of the claim that is left open
+-- ---- a job is that of the claim that stays open
 
--- nothing is given
+-- no job is given
 none_given : (P : Task → Type 0) → ForSome None P
 none_given P job e = absurd (let no : None ≡ Some job = e in cc)
 
@@ -56,7 +56,7 @@ none_given P job e = absurd (let no : None ≡ Some job = e in cc)
 this_given : (P : Task → Type 0) (job : Task) → P job → ForSome (Some job) P
 this_given P job holds other e = subst P (ap (λ o. unwrap_or o job) e) holds
 
--- once the claim comes to wait for a build
+-- the claim begins to wait for a build
 given_then : (s : State) (a : Answer) (u host : ℕ) (stage : members.Stage Value)
     → a.claim ≡ claim_then s.claim u host (progress_of (length s.weights) stage)
     → ForSome (job_then s u host stage) (IsJobGiven s a)

@@ -1,19 +1,19 @@
--- What holds of an open claim before a step of the theory holds of it afterwards.
+-- A step of the theory preserves the invariant of open claims.
 use Rattle.std.proofs.Common.{◌≡◌, ℕ, false, Option, None, Some, IfSome}
 use Rattle.std.proofs.lemmas.Bool.{cond_both}
-use Rattle.agreement.specs.declared.claim.Claim.{Claim}
-use Rattle.agreement.specs.Claims.{claim_same, is_above, is_below, is_promised}
-use Rattle.agreement.specs.Quorums.{Quorums, nobody, with_member}
-use Rattle.agreement.specs.Votes.{Ballot, PromiseOf, is_voted, kept_report}
-use Rattle.agreement.specs.Member as members
-use Rattle.agreement.specs.Messages as messages
-use Rattle.agreement.specs.Step.{Outcome, on_agreed, on_ask, on_built, on_failed, on_inquire}
-use Rattle.agreement.specs.Step.{on_message, on_nudge, on_offer, on_promise, on_propose, on_quorum}
-use Rattle.agreement.specs.Step.{on_vote}
+use Rattle.claims.specs.declared.claim.Claim.{Claim}
+use Rattle.claims.specs.Claims.{claim_same, is_above, is_below, is_promised}
+use Rattle.claims.specs.Quorums.{Quorums, nobody, with_member}
+use Rattle.claims.specs.Votes.{Ballot, PromiseOf, is_voted, kept_report}
+use Rattle.claims.specs.Member as members
+use Rattle.claims.specs.Messages as messages
+use Rattle.claims.specs.Step.{Outcome, on_agreed, on_ask, on_built, on_failed, on_inquire}
+use Rattle.claims.specs.Step.{on_message, on_nudge, on_offer, on_promise, on_propose, on_quorum}
+use Rattle.claims.specs.Step.{on_vote}
 use Rattle.protocol.specs.State.{Value}
 use Rattle.std.specs.Prelude.{not, ◌&&◌}
 
--- The claim at this stage is such, and those that joined are not enough yet.
+-- The claim at this stage satisfies `Own`, and those that joined are not yet enough.
 abbrev pub IsGoodStage : (Claim → Type 0) → Quorums → members.Stage Value → Type 0
 IsGoodStage Own enough members.Closed = Unit {0}
 IsGoodStage Own enough (members.Gathering c S k) = Own c × (enough S ≡ false)
@@ -22,7 +22,7 @@ IsGoodStage Own enough (members.Voting b S) = Own b.claim × (enough S ≡ false
 
 module _ (Own : Claim → Type 0) (enough : Quorums) (none : enough nobody ≡ false)
     (x : members.Member Value) (good : IsGoodStage Own enough x.stage) where
-  -- the claim that an outcome leaves is such
+  -- the claim after an outcome satisfies this
   abbrev Good : Outcome Value → Type 0
   Good o = IsGoodStage Own enough o.member.stage
 
@@ -72,7 +72,7 @@ module _ (Own : Claim → Type 0) (enough : Quorums) (none : enough nobody ≡ f
   ask_good None = good
   ask_good (Some v) = good
 
-  -- whatever comes
+  -- whatever message arrives
   pub message_good : (me : ℕ) (m : messages.Message Value) → Good (on_message enough me x m)
   message_good me (messages.Offer c) = offer_good me c
   message_good me (messages.Promise p) = promise_good x.stage p good
@@ -90,7 +90,7 @@ module _ (Own : Claim → Type 0) (enough : Quorums) (none : enough nobody ≡ f
   built_good (members.Building c) v is = (is, none)
   built_good (members.Voting b S) v is = tt
 
-  -- a claim that is dropped
+  -- dropping a claim
   pub failed_good : (s : members.Stage Value) → IfSome (on_failed x s) Good
   failed_good members.Closed = tt
   failed_good (members.Gathering c S k) = tt

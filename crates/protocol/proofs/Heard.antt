@@ -1,32 +1,32 @@
--- What the theory's member does when a message comes, as far as an answer needs it.
+-- What an answer needs to know of the theory's member on a message.
 use Rattle.std.proofs.Common.{◌≡◌, ◌==◌, ◌&&◌, ◌<◌, not, ℕ, true, false, Option, Some, None, refl}
 use Rattle.std.proofs.Common.{sym, subst, ⊎_elim, eqb-true}
 use Rattle.std.proofs.lemmas.Bool.{cond_both, false≢true, or_cases}
-use Rattle.agreement.specs.declared.claim.Claim.{Claim}
-use Rattle.agreement.specs.Claims.{claim_same, is_above, is_below, is_promised}
-use Rattle.agreement.specs.Quorums.{Members, Quorums, with_member}
-use Rattle.agreement.specs.Votes.{Ballot, PromiseOf, is_voted, kept_report}
-use Rattle.agreement.specs.Member as members
-use Rattle.agreement.specs.Messages as messages
-use Rattle.agreement.specs.Step.{Outcome, on_agreed, on_ask, on_message, on_offer, on_promise}
-use Rattle.agreement.specs.Step.{on_propose, on_quorum, on_vote, still}
+use Rattle.claims.specs.declared.claim.Claim.{Claim}
+use Rattle.claims.specs.Claims.{claim_same, is_above, is_below, is_promised}
+use Rattle.claims.specs.Quorums.{Members, Quorums, with_member}
+use Rattle.claims.specs.Votes.{Ballot, PromiseOf, is_voted, kept_report}
+use Rattle.claims.specs.Member as members
+use Rattle.claims.specs.Messages as messages
+use Rattle.claims.specs.Step.{Outcome, on_agreed, on_ask, on_message, on_offer, on_promise}
+use Rattle.claims.specs.Step.{on_propose, on_quorum, on_vote, still}
 use Rattle.protocol.specs.State.{Value}
 use Rattle.protocol.proofs.TheTheory.{IsSaidBy, IsSaidByAny, IsWithin}
 
--- an outcome that an answer can be made of: the member is up, its claim counts members below n, and
--- what is said it says
+-- an outcome from which an answer can be made: the member is up, its claim counts members below n,
+-- and it is the speaker of what is said
 pub record IsFit (n me : ℕ) (o : Outcome Value) : Type 0 where
   pub up : o.member.up ≡ true
   pub within : IsWithin n o.member.stage
   pub by : IsSaidByAny me o.send
 
--- an offer that is not above the promise meets one
+-- if an offer is not above the promise, there is a promise
 nay_to_offer : (me : ℕ) (c : Claim) (p : Option Claim) → is_above c p ≡ false
     → IsSaidBy me (messages.Nay me c p)
 nay_to_offer me c None e = absurd (false≢true (sym e))
 nay_to_offer me c (Some q) e = refl
 
--- so does a proposal that is turned down, since who voted has promised
+-- likewise if a proposal is rejected, since a member that voted has promised
 nay_to_proposal : (me : ℕ) (c : Claim) (p : Option Claim) (v : Option (Ballot Value))
     → (p ≡ None → v ≡ None)
     → (not (is_below c p) && not (is_voted c v)) ≡ false → IsSaidBy me (messages.Nay me c p)
@@ -35,7 +35,7 @@ nay_to_proposal me c None (Some b) pledged e =
     absurd (let none : Some b ≡ None = pledged refl in cc)
 nay_to_proposal me c (Some q) v pledged e = refl
 
--- who joins members below n leaves them so
+-- adding a member below n leaves all members below n
 joined_within : (n m : ℕ) (S : Members) → ((k : ℕ) → S k ≡ true → k < n) → m < n → (k : ℕ)
     → with_member S m k ≡ true → k < n
 joined_within n m S within lt k e =
@@ -54,7 +54,7 @@ IsFrom n messages.Ask = Unit {0}
 
 module _ (n me : ℕ) (x : members.Member Value) (up : x.up ≡ true) (within : IsWithin n x.stage)
     (pledged : x.promised ≡ None → x.voted ≡ None) where
-  -- the member stays as it is
+  -- the member is unchanged
   stays : IsFit n me (still x)
   stays = record { up = up; within = within; by = tt }
 
@@ -116,7 +116,7 @@ module _ (n me : ℕ) (x : members.Member Value) (up : x.up ≡ true) (within : 
   ask_fits None = stays
   ask_fits (Some v) = record { up = up; within = within; by = tt }
 
-  -- whatever comes from a member
+  -- whatever arrives from a member
   pub message_fits : (enough : Quorums) (m : messages.Message Value) → IsFrom n m
       → IsFit n me (on_message enough me x m)
   message_fits enough (messages.Offer c) from = offer_fits c

@@ -12,7 +12,7 @@ use Rattle.faults.specs.Pieces.{set_of}
 use Rattle.faults.proofs.Members.{contains_first, contains_later, has_preimage}
 use Rattle.faults.proofs.Sets.{from_set}
 use Rattle.claims.specs.declared.deps.Dep.{Dep}
-use Rattle.listing.specs.Tree.{IsTree, path_at}
+use Rattle.engine.specs.Tree.{IsTree, path_at}
 use Rattle.package_record.specs.Content.{Content}
 use Rattle.engine.specs.Division.{number_of, unit_at}
 use Rattle.engine.proofs.Places.{has_position, same_bytes}
@@ -41,7 +41,7 @@ record_stays s a path r e = by_unit (unit_with s.division path) e
     by_unit None e = e
     by_unit (Some u) e = by_build u (facts_at s u).held refl e
 
--- where a package is held, its record is the same after a step
+-- if a package is held, its record is the same after a step
 same_record : (s : State) (a : Answer) (p : ℕ) → IsTree s.division.tree → p < length s.division.tree
     → holds_package s p ≡ true
     → held_record (after s a) (path_at s.division.tree p) ≡ held_record s
@@ -69,7 +69,7 @@ same_record s a p is lt held =
     by_unit None e = absurd (false≢true e)
     by_unit (Some u) e = by_build u (facts_at s u).held refl e
 
--- two calls that agree at each element give one list
+-- functions that agree at each element filter a list alike
 filter_map-same : {X Y : Type 0} (f g : X → Option Y) (xs : List X)
     → ((x : X) → Contains xs x → f x ≡ g x) → filter_map f xs ≡ filter_map g xs
 filter_map-same f g [] same = refl
@@ -77,7 +77,7 @@ filter_map-same f g (x ∷ xs) same =
     ap₂ cons_option (same x (contains_first x xs))
     (filter_map-same f g xs (λ y later. same y (contains_later x y xs later)))
 
--- So the signatures that a build stands on stay, where all that it needs is held.
+-- So the signatures for a build stay, if everything that it needs is held.
 pub deps_stay : (s : State) (a : Answer) (u : ℕ) → IsTree s.division.tree
     → All (λ p. p < length s.division.tree) (unit_at s.division u).build
     → All (λ p. holds_package s p ≡ true) (unit_at s.division u).build
@@ -125,7 +125,7 @@ record_has_path s path r e = by_unit (unit_with s.division path) e
     by_unit None e = absurd (let no : None ≡ Some r = e in cc)
     by_unit (Some u) e = by_build (facts_at s u).held e
 
--- a dependency is the signature of a held record
+-- the dependency is the signature of a held record
 abbrev pub IsSignedBy : State → Dep → Type 0
 IsSignedBy s d = (r : Content) × (held_record s d.path ≡ Some r) × (d ≡ signature r)
 
@@ -147,7 +147,7 @@ all_signed s (path ∷ paths) = by_record (held_record s path) refl (all_signed 
 pub builds_stand : BuildsStandOnWhatIsHeld
 builds_stand s u = all_signed s (in_order_of_path s.division.tree (unit_at s.division u).build)
 
--- where each record is held, all paths are signed
+-- if a record is held for each path, all paths are signed
 paths_signed : (s : State) (paths : List Text)
     → ((path : Text) → Contains paths path → (r : Content) × (held_record s path ≡ Some r))
     → map (λ d. d.path) (filter_map (λ path. option_map signature (held_record s path)) paths) ≡

@@ -1,4 +1,4 @@
--- What a note changes of what a member knows.
+-- The effect of a note on what a member knows.
 use Rattle.std.proofs.Common.{◌≡◌, ◌<◌, ℕ, Bool, true, false, All, List, length, Option, None, Some}
 use Rattle.std.proofs.Common.{refl, sym, ap, subst, ◌∙◌, inl, inr, if◌then◌else◌}
 use Rattle.std.specs.Prelude.{is_some, slice_set}
@@ -6,10 +6,10 @@ use Rattle.std.specs.List.{slice_index_or}
 use Rattle.std.proofs.lemmas.Bool.{cases_eq, cases_lt, false≢true}
 use Rattle.std.proofs.lemmas.List.{get_or-set_other, get_or-set_same, get_or_past, length-set}
 use Rattle.std.proofs.lemmas.List.Elements.{All-set}
-use Rattle.agreement.specs.declared.claim.Claim.{Claim}
-use Rattle.agreement.specs.Claims.{is_above}
-use Rattle.agreement.specs.Member as members
-use Rattle.agreement.specs.Member.{Facts, first, greater, no_facts, noted}
+use Rattle.claims.specs.declared.claim.Claim.{Claim}
+use Rattle.claims.specs.Claims.{is_above}
+use Rattle.claims.specs.Member as members
+use Rattle.claims.specs.Member.{Facts, first, greater, no_facts, noted}
 use Rattle.ballots.specs.InTheAgreement.{note_of}
 use Rattle.ballots.specs.Pledge.{HasPromised}
 use Rattle.ballots.specs.declared.message.Note.{Note}
@@ -18,7 +18,7 @@ use Rattle.protocol.specs.State.{State, Value, facts_at, facts_then, holds_packa
 use Rattle.protocol.specs.State.{noted_at}
 use Rattle.protocol.specs.Answers.{Answer, after}
 
--- what holds of each element, and where there is none, holds at each index
+-- what holds of each element, and of the default, holds at each index
 pub at_any : {X : Type 0} (P : X → Type 0) (xs : List X) (k : ℕ) (d : X) → All P xs → P d
     → P (slice_index_or xs k d)
 at_any P xs k d all past =
@@ -27,9 +27,9 @@ at_any P xs k d all past =
       | inr ge ↦ subst P (sym (get_or_past xs k d ge)) past
     ]
 
--- ---- who voted has promised
+-- ---- a member that voted has promised
 
--- who promised one claim more has promised
+-- there is a promise after one more promise
 never_none : (p : Option Claim) (c : Claim) → greater p c ≡ None → ⊥
 never_none None c e = let no : Some c ≡ None = e in cc
 never_none (Some p) c e = by_test (is_above c (Some p)) e
@@ -38,7 +38,7 @@ never_none (Some p) c e = by_test (is_above c (Some p)) e
     by_test true e = let no : Some c ≡ None = e in cc
     by_test false e = let no : Some p ≡ None = e in cc
 
--- a member of which this holds has promised where it voted
+-- if these facts have a vote, they have a promise
 abbrev pub Pledged : Facts Value → Type 0
 Pledged f = HasPromised f.promised f.voted
 
@@ -61,7 +61,7 @@ pledged_then d facts (Some n) are = by_unit (number_named d n.path)
         (noted_pledged (slice_index_or facts u no_facts) (note_of n.fact)
         (at_any Pledged facts u no_facts are (λ e. refl))) are
 
--- facts are kept of as many units as before
+-- the number of units with facts stays the same
 pub each_then : (d : Division) (facts : List (Facts Value)) (n : Option (Note Value))
     → length (facts_then d facts n) ≡ length facts
 each_then d facts None = refl
@@ -80,7 +80,7 @@ held_then f (members.Promised c) v e = e
 held_then f (members.Voted b) v e = e
 held_then f (members.Held w) v e = ap (λ h. first h w) e
 
--- what is known of something is known of a unit
+-- if something is known of a number, it is a unit's
 known_within : (facts : List (Facts Value)) (u : ℕ) (v : Value)
     → (slice_index_or facts u no_facts).held ≡ Some v → u < length facts
 known_within facts u v e =
@@ -113,7 +113,7 @@ held_stays_known d facts (Some n) u v e = by_unit (number_named d n.path)
               (get_or-set_other facts w u f no_facts other) ∙ e
         ]
 
--- in a member's words
+-- the same for a member
 pub held_stays : (s : State) (a : Answer) (u : ℕ) (v : Value) → (facts_at s u).held ≡ Some v
     → (facts_at (after s a) u).held ≡ Some v
 held_stays s a u v e = held_stays_known s.division s.facts a.note u v e

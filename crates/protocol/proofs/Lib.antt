@@ -4,16 +4,16 @@ mod Examples
 mod FirstFiles
 pub mod GivenJobs
 pub mod GoodClaims
-pub mod HeldRecords
 mod Heard
+pub mod HeldRecords
 pub mod Known
+pub mod MadeBuilds
 pub mod MembersStay
 pub mod OneAnswer
 pub mod PackageOrder
 mod Ready
 mod Receivers
 pub mod Restored
-pub mod MadeBuilds
 mod Rows
 pub mod StayingMembers
 pub mod TheTheory

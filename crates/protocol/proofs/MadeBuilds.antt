@@ -18,15 +18,15 @@ use Rattle.faults.specs.Pieces.{text_cmp}
 use Rattle.faults.proofs.Ascending.{Rising}
 use Rattle.faults.proofs.Members.{contains_first, contains_later, has_preimage}
 use Rattle.faults.proofs.Sets.{from_set, set_rises}
-use Rattle.agreement.specs.Member.{Facts, no_facts}
-use Rattle.agreement.specs.declared.claim.Claim.{Claim}
+use Rattle.claims.specs.Member.{Facts, no_facts}
+use Rattle.claims.specs.declared.claim.Claim.{Claim}
 use Rattle.claims.specs.Claim.{IsClaim}
 use Rattle.claims.specs.Deps.{AreInOrder, is_ascending}
 use Rattle.claims.specs.declared.deps.Dep.{Dep}
-use Rattle.listing.specs.Tree.{ArePositions, Tree, no_package, path_at}
-use Rattle.listing.specs.Tree.{run_at}
-use Rattle.pkgname.specs.PkgName.{IsName}
-use Rattle.pkgpath.specs.PkgPath.{IsPath}
+use Rattle.engine.specs.Tree.{ArePositions, Tree, no_package, path_at}
+use Rattle.engine.specs.Tree.{run_at}
+use Rattle.package_record.specs.PkgName.{IsName}
+use Rattle.package_record.specs.PkgPath.{IsPath}
 use Rattle.package_record.specs.Build.{AreAlike, IsAlike, IsBuild, paths_of, unit_path}
 use Rattle.package_record.specs.Content.{Content, IsDep, IsRecord}
 use Rattle.package_record.specs.Laws.{CanBeMade}
@@ -47,12 +47,12 @@ use Rattle.protocol.proofs.PackageOrder.{few_packages, grouped, paths_ascend, se
 
 -- ---- lists
 
--- what holds of each member of a list holds of all
+-- what holds of each element holds of all
 all_members : {X : Type 0} (P : X → Type 0) (xs : List X) → ((x : X) → Contains xs x → P x)
     → All P xs
 all_members P xs each k d lt = each (slice_index_or xs k d) (Contains-get_or xs k d lt)
 
--- what is found is a member
+-- what is found is an element
 found_member : {X : Type 0} (test : X → Bool) (xs : List X) (x : X) → find test xs ≡ Some x
     → Contains xs x
 found_member test [] x e = absurd (let no : None ≡ Some x = e in cc)
@@ -69,14 +69,14 @@ not_below_itself : (t : Text) → text_cmp t t ≡ Less → ⊥
 not_below_itself t e = let no : Less ≡ Greater = sym e
     ∙ (nat_list_cmp_total.antisymm t t ∙ ap ordering_reverse e) in cc
 
--- ---- what is held, where it is builds
+-- ---- what is held, if it consists of builds
 
 module _ (s : State) (are : All (λ (f : Facts Value). ForSome f.held IsBuild) s.facts) where
   held_is_build : (u : ℕ) → ForSome (facts_at s u).held IsBuild
   held_is_build u = at_any (λ (f : Facts Value). ForSome f.held IsBuild) s.facts u no_facts are
       (λ v e. absurd (let no : None ≡ Some v = e in cc))
 
-  -- a record that is held is one
+  -- a held record is a record
   held_is_record : (path : Text) (r : Content) → held_record s path ≡ Some r → IsRecord r
   held_is_record path r e = by_unit (unit_with s.division path) e
     where
@@ -93,7 +93,7 @@ module _ (s : State) (are : All (λ (f : Facts Value). ForSome f.held IsBuild) s
       by_unit None e = absurd (let no : None ≡ Some r = e in cc)
       by_unit (Some u) e = by_build (facts_at s u).held (held_is_build u) e
 
-  -- and its signature is a dependency
+  -- its signature is a dependency
   signed_is_dep : (d : Dep) → IsSignedBy s d → IsDep d
   signed_is_dep d signed =
       let is = held_is_record d.path signed.0 signed.1 in
@@ -111,11 +111,11 @@ module _ (s : State) (are : All (λ (f : Facts Value). ForSome f.held IsBuild) s
 
 -- ---- the order of dependencies
 
--- the signatures of what is held of these
+-- the signatures of what is held of these paths
 abbrev signed : State → List Text → List Dep
 signed s paths = filter_map (λ path. option_map signature (held_record s path)) paths
 
--- what passes for all paths passes for those that are signed
+-- a test that passes for all paths passes for the signed ones
 signed_pass : (s : State) (test : Text → Bool) (paths : List Text) → list_all test paths ≡ true
     → list_all test (map (λ d. d.path) (signed s paths)) ≡ true
 signed_pass s test [] e = refl

@@ -1,16 +1,16 @@
--- Members stay members, whatever they are asked.
+-- Members stay valid, whatever they are asked.
 use Rattle.std.proofs.Common.{◌≡◌, ◌<◌, ◌≤◌, ◌&&◌, ℕ, suc, max, Bool, true, false, All, List, []}
 use Rattle.std.proofs.Common.{◌∷◌, Option, Some, None, Ok, Err, IfSome, arith, refl, sym, subst, ap}
 use Rattle.std.proofs.Common.{length, nat_le}
 use Rattle.std.specs.Prelude.{cond, unwrap_or}
 use Rattle.std.specs.List.{list_all}
 use Rattle.std.proofs.lemmas.Bool.{and_parts, leb-false, leb-true}
-use Rattle.agreement.specs.Noted.{IsNoted}
-use Rattle.agreement.specs.Quorums.{is_majority}
-use Rattle.agreement.specs.Member as members
-use Rattle.agreement.specs.Step.{Outcome, on_built, on_failed, on_inquire, on_nudge, on_start}
-use Rattle.agreement.specs.Step as theory
-use Rattle.agreement.proofs.Restored.{answer_noted, message_noted}
+use Rattle.claims.specs.Noted.{IsNoted}
+use Rattle.claims.specs.Quorums.{is_majority}
+use Rattle.claims.specs.Member as members
+use Rattle.claims.specs.Step.{Outcome, on_built, on_failed, on_inquire, on_nudge, on_start}
+use Rattle.claims.specs.Step as theory
+use Rattle.claims.proofs.Restored.{answer_noted, message_noted}
 use Rattle.claims.specs.Claim.{greatest_round}
 use Rattle.engine.specs.declared.Letter.{Letter}
 use Rattle.faults.specs.Bytes.{Text}
@@ -45,9 +45,9 @@ use Rattle.protocol.proofs.Ready.{ready_by_letter}
 use Rattle.protocol.proofs.StayingMembers.{IsGood, IsLeft, IsOwn, nobody_is_short, left_so}
 use Rattle.protocol.proofs.StayingMembers.{view_is_good}
 
--- ---- what is asked for a unit
+-- ---- inputs for a unit
 
--- an input for a unit leaves a member that is one, where the claim that it leaves is such
+-- an input for a unit leaves a valid member, if the claim that it leaves satisfies the invariant
 asked_stays : (s : State) (f : Refusal) (u host : ℕ) (to : List ℕ) (asks : theory.Input Value)
     (a : Answer)
     → IsMember s → u < length s.division.units → IsLocal asks
@@ -66,7 +66,7 @@ asked_stays s f u host to asks a is lt local good e =
     subst (IsLeft s) made.2
     (left_so s u host to made.0 is lt noted fit (good made.0 made.1))
 
--- the claim that it has is such
+-- the claim in an outcome satisfies the invariant
 good_of : (s : State) (u : ℕ) (o : Option (Outcome Value)) (x : Outcome Value)
     → IfSome o (λ o. IsGood s u (host_in s.claim) o.member.stage) → o ≡ Some x
     → IsGood s u (host_in s.claim) x.member.stage
@@ -89,7 +89,7 @@ first_is_not : (b : Bool) (f : Refusal) (rest : Option Refusal) → cond b (Some
 first_is_not true f rest e = absurd (let no : Some f ≡ None = e in cc)
 first_is_not false f rest e = (refl, e)
 
--- the claim that is opened is in range, the member's own, and its build is ready
+-- the claim that is opened is in range and the member's own, and its build is ready
 opened_good : (s : State) (u host above : ℕ) (o : Outcome Value) (h : Option Value) → IsMember s
     → host ≤ 65535
     → All (λ p. holds_package s p ≡ true) (unit_at s.division u).build

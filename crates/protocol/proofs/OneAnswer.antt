@@ -11,7 +11,7 @@ use Rattle.protocol.specs.Laws.{OnlyOneAnswerIsRight}
 use Rattle.protocol.specs.Step.{IsLetterOf, at_unit, claims, stranger, unit_in}
 use Rattle.protocol.specs.declared.input.Input.TheVariants as inputs
 
--- a claim looks at the letter of its unit, which has one
+-- a claim depends on the letter of its unit, which is unique
 one_claim : (s : State) (path : Text) (host above : ℕ) (k l : Letter) (u : Option ℕ)
     → IsLetterOf s u k → IsLetterOf s u l
     → at_unit (stranger s path) (claims s k host above) u ≡ at_unit (stranger s path)

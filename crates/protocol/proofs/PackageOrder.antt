@@ -1,4 +1,4 @@
--- The packages of a unit: in order of path, of one group, and no more than the tree has.
+-- The packages of a unit: in order of path, in one group, and not more than the tree has.
 use Rattle.std.proofs.Common.{◌≡◌, ◌<◌, ◌≤◌, ◌&&◌, ℕ, suc, Bool, true, List, [], ◌∷◌, length, map}
 use Rattle.std.proofs.Common.{Option, None, Some, Less, Equal, Greater, arith, refl, sym, ap, ◌∙◌}
 use Rattle.std.proofs.Common.{inl, inr}
@@ -18,8 +18,8 @@ use Rattle.faults.proofs.Ascending.{Rising}
 use Rattle.faults.proofs.Members.{contains_first, contains_later}
 use Rattle.faults.proofs.Sets.{set_rises}
 use Rattle.claims.specs.Deps.{is_ascending}
-use Rattle.listing.specs.Tree.{Tree, group_at, path_at, position_of}
-use Rattle.pkgpath.specs.PkgPath.{without_subpackage}
+use Rattle.engine.specs.Tree.{Tree, group_at, path_at, position_of}
+use Rattle.package_record.specs.PkgPath.{without_subpackage}
 use Rattle.engine.specs.Division.{Division, IsDivision, unit_at}
 use Rattle.engine.specs.Units.{made_with, positions}
 use Rattle.engine.specs.Units as units
@@ -27,7 +27,7 @@ use Rattle.engine.proofs.Kept.{unit_good, unit_some}
 use Rattle.engine.proofs.WellMade.{one_unit_has}
 use Rattle.protocol.specs.Jobs.{in_order_of_path}
 
--- ---- lists that ascend
+-- ---- ascending lists
 
 all_pass : {X : Type 0} (test : X → Bool) (xs : List X) → ((x : X) → Contains xs x → test x ≡ true)
     → list_all test xs ≡ true
@@ -36,7 +36,7 @@ all_pass test (x ∷ xs) each =
     and_from (test x) (list_all test xs) (each x (contains_first x xs))
     (all_pass test xs (λ y later. each y (contains_later x y xs later)))
 
--- texts that rise ascend
+-- strictly increasing texts ascend
 pub rising_ascends : (ts : List Text) → Rising text_cmp ts → is_ascending ts ≡ true
 rising_ascends [] rising = refl
 rising_ascends (t ∷ ts) rising =
@@ -51,7 +51,7 @@ set_ascends ts = rising_ascends (set_of ts) (set_rises ts)
 pub in_order_ascends : (tree : Tree) (ps : List ℕ) → is_ascending (in_order_of_path tree ps) ≡ true
 in_order_ascends tree ps = set_ascends (map (path_at tree) ps)
 
--- ---- few packages
+-- ---- the number of packages
 
 one_longer : (t : Text) (us : List Text) → length (with_member t us) ≤ suc (length us)
 one_longer t [] = omega arith
@@ -98,7 +98,7 @@ module _ (d : Division) (u : ℕ) (is : IsDivision d) (lt : u < length d.units) 
   paths_ascend =
       ap is_ascending (unit_good d u is lt).named.in_order ∙ in_order_ascends d.tree packages
 
-  -- they are of one group
+  -- they are in one group
   pub grouped : (p q : ℕ) → Contains packages p → Contains packages q
       → without_subpackage (path_at d.tree q) ≡ without_subpackage (path_at d.tree p)
   grouped p q has_p has_q =
@@ -109,7 +109,7 @@ module _ (d : Division) (u : ℕ) (is : IsDivision d) (lt : u < length d.units) 
             ∙ named.alike p q has_p has_q other
       ]
 
-  -- and no more than the tree has
+  -- there are no more than in the tree
   pub few_packages : length packages ≤ length d.tree
   few_packages =
       let first = slice_index_or packages 0 0 in

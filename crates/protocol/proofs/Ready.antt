@@ -1,4 +1,4 @@
--- What is claimed can be built: all that it needs is held.
+-- A unit that is claimed can be built: everything that it needs is held.
 use Rattle.std.proofs.Common.{◌≡◌, ◌<◌, ℕ, Bool, true, false, All, length, Some, sym, ap}
 use Rattle.std.proofs.Common.{subst, ◌∙◌}
 use Rattle.std.specs.Prelude.{filter}
@@ -31,7 +31,7 @@ held_package s p e =
     let found = sym (contains-from_list_nat (filter (holds_package s) all) p) ∙ e in
     (and_parts (is_in all p) (holds_package s p) (sym (in_kept (holds_package s) all p) ∙ found)).1
 
--- What is installable is held.
+-- A package that is installable is held.
 installable_held : (s : State) (p : ℕ) → IsInstallable s.division.tree (held_by s) p
     → holds_package s p ≡ true
 installable_held s p is = held_package s p (is.all_held p is.member)
@@ -49,7 +49,7 @@ module _ (s : State) (u : ℕ) (is : IsMember s) (lt : u < length s.division.uni
   not_held_first : is_held s u ≡ false → holds_package s first ≡ true → ⊥
   not_held_first free held = true≢false (sym held ∙ (ap (is_held_any s) first_is_of_it.0 ∙ free))
 
-  -- Where the unit is not held, and does not wait, its build is ready.
+  -- If the unit is not held and does not wait, its build is ready.
   pub ready_by_letter : (letter : Letter) → HasLetter s u letter → is_held s u ≡ false
       → is_waiting letter ≡ false
       → All (λ p. holds_package s p ≡ true) (unit_at s.division u).build

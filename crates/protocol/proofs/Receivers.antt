@@ -1,10 +1,10 @@
--- Who gets what is sent.
+-- The receivers of what is sent.
 use Rattle.std.proofs.Common.{◌≡◌, ◌↔◌, ℕ, List, [], ◌∷◌, Option, None, Some, refl, sym, ap}
 use Rattle.ballots.specs.Value.{Value}
 use Rattle.ballots.specs.declared.message.Message.{Message}
 use Rattle.protocol.specs.Sends.{receivers_of, sent_to}
 
--- one message to these goes to these
+-- the receivers of one message to these members are these members
 same_receivers : (message : Message Value) (to : List ℕ)
     → receivers_of (sent_to (Some message) to) ≡ to
 same_receivers message [] = refl
@@ -15,7 +15,7 @@ pub receivers_again : (message : Option (Message Value)) (to : List ℕ) → (me
 receivers_again None to nobody = sym (nobody refl)
 receivers_again (Some message) to nobody = same_receivers message to
 
--- nothing is sent where there is no message or nobody gets it
+-- nothing is sent if there is no message or no receiver
 pub none_sent : (message : Option (Message Value)) (to : List ℕ) → (message ≡ None) ↔ (to ≡ [])
     → (message ≡ None) ↔ (sent_to message to ≡ [])
 none_sent None to nobody = (λ e. refl, λ e. refl)

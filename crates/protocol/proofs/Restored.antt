@@ -11,8 +11,8 @@ use Rattle.std.proofs.lemmas.List.{length-map, reverse-append}
 use Rattle.std.proofs.lemmas.List.Elements.{All-head, All-map, All-tail}
 use Rattle.std.proofs.lemmas.List.Quantifiers.{position-Some}
 use Rattle.faults.specs.Bytes.{Text}
-use Rattle.agreement.specs.Member as members
-use Rattle.agreement.specs.Member.{Facts, no_facts, noted}
+use Rattle.claims.specs.Member as members
+use Rattle.claims.specs.Member.{Facts, no_facts, noted}
 use Rattle.ballots.specs.InTheAgreement.{note_of}
 use Rattle.ballots.specs.declared.message.Note.{Note}
 use Rattle.engine.specs.Division.{Division, IsDivision, no_unit, number_named, unit_at}
@@ -23,7 +23,7 @@ use Rattle.protocol.specs.Laws.{NotesRestoreFacts}
 use Rattle.protocol.specs.Restoring.{AreOnUnits}
 use Rattle.protocol.proofs.Known.{Pledged, each_then, pledged_then}
 
--- the notes in the order in which the theory has them: the last note first
+-- the notes in the theory's order, latest first
 restored_in_turn : (xs ys : List (members.Note Value))
     → members.restored (reverse xs ++ ys) ≡ fold noted (members.restored ys) xs
 restored_in_turn [] ys = refl
@@ -33,7 +33,7 @@ restored_in_turn (x ∷ xs) ys =
     ∙ restored_in_turn xs (x ∷ ys)
 
 module _ (d : Division) where
-  -- all facts, once these were noted too
+  -- all facts after these notes
   abbrev all_noted : List (Facts Value) → List (Note Value) → List (Facts Value)
   all_noted facts notes = fold (λ facts n. facts_then d facts (Some n)) facts notes
 
@@ -53,15 +53,15 @@ module _ (d : Division) where
     abbrev name : Text
     name = (unit_at d u).name
 
-    -- those that are on the unit
+    -- the notes about the unit
     abbrev on_unit : List (Note Value) → List (Note Value)
     on_unit notes = filter (λ n. bytes_eq n.path name) notes
 
-    -- what they note
+    -- what these notes say
     abbrev facts_in : List (Note Value) → List (members.Note Value)
     facts_in notes = map (λ n. note_of n.fact) notes
 
-    -- a note on the unit is noted there
+    -- a note about the unit is noted there
     noted_here : (facts : List (Facts Value)) (n : Note Value) → u < length facts
         → number_named d n.path ≡ Some u
         → slice_index_or (facts_then d facts (Some n)) u no_facts ≡ noted
@@ -70,7 +70,7 @@ module _ (d : Division) where
         ap (λ v. slice_index_or (noted_at v facts n) u no_facts) e
         ∙ get_or-set_same facts u _ no_facts within
 
-    -- and one on another unit is not
+    -- a note about another unit is not noted there
     noted_elsewhere : (facts : List (Facts Value)) (n : Note Value) (v : ℕ)
         → number_named d n.path ≡ Some v → (u ≡ v → ⊥)
         → slice_index_or (facts_then d facts (Some n)) u no_facts ≡ slice_index_or facts u no_facts
@@ -78,7 +78,7 @@ module _ (d : Division) where
         ap (λ v. slice_index_or (noted_at v facts n) u no_facts) e
         ∙ get_or-set_other facts v u _ no_facts other
 
-    -- the path of a note on the unit is its name, and the other way round
+    -- a note is about the unit if and only if its path is the unit's name
     is_name : (n : Note Value) → number_named d n.path ≡ Some u → bytes_eq n.path name ≡ true
     is_name n e =
         let at = position-Some (λ x. bytes_eq x.name n.path) d.units u no_unit e in
@@ -127,7 +127,7 @@ module _ (d : Division) where
             (sym (false_from_ne_true (bytes_eq n.path name)
             (λ same. other (names_unit n v e same))))
 
--- nothing is known of any unit at first
+-- initially nothing is known of any unit
 abbrev all_unknown : Division → List (Facts Value)
 all_unknown d = map (λ x. no_facts) d.units
 

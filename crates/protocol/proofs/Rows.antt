@@ -1,7 +1,7 @@
--- Members of one package, computed. Nothing here computes a digest: bodies of messages do.
+-- Members with one package, computed. Nothing here computes a digest; only bodies of messages do.
 use Rattle.std.specs.Prelude.{◌≡◌, refl, ℕ, true, List, [], ◌∷◌, Option, None, Some, Result, Ok}
 use Rattle.std.specs.Prelude.{Err, codes, map, option_map}
-use Rattle.agreement.specs.Votes.{ballot}
+use Rattle.claims.specs.Votes.{ballot}
 use Rattle.engine.specs.declared.Letter.TheVariants as letters
 use Rattle.ballots.specs.declared.message.Body.{Body}
 use Rattle.ballots.specs.declared.message.Body.TheVariants.{Offer, Promise, Propose, Vote, Agreed}
@@ -22,12 +22,12 @@ use Rattle.protocol.specs.declared.input.Input.TheVariants as inputs
 
 -- ---- a plain run of three members
 
--- what a result's answer leaves, and says; read only of an answer
+-- the member after a result, and what it says; read only if it is an answer
 abbrev left : State → Result Answer Refusal → State
 left s (Ok a) = after s a
 left s (Err e) = s
 
--- what goes out
+-- what is sent
 abbrev out : Result Answer Refusal → List (ℕ × Body Value)
 out (Ok a) = said_to a.sends
 out (Err e) = []
@@ -48,7 +48,7 @@ first_offers : out opening ≡ (0, Offer (claim 1 0)) ∷ (1, Offer (claim 1 0))
     (2, Offer (claim 1 0)) ∷ []
 first_offers = refl
 
--- the offer comes to member 1, which promises
+-- the offer reaches member 1, which promises
 promise_of_1 : said_to (hears (newcomer three 1) 0 0 (Offer (claim 1 0))).sends ≡
     (0, Promise (claim 1 0) None) ∷ []
 promise_of_1 = refl
@@ -57,7 +57,7 @@ note_of_1 : (hears (newcomer three 1) 0 0 (Offer (claim 1 0))).note ≡ Some
     (note (fact.Promised (claim 1 0)))
 note_of_1 = refl
 
--- two of three promised: a job
+-- two of three promised, so a job is given
 abbrev gathering : State
 gathering = after_hearing (left (newcomer three 0) opening)
     ((0, Offer (claim 1 0)) ∷ (1, Promise (claim 1 0) None) ∷ [])
@@ -80,7 +80,7 @@ building = after_hearing gathering ((0, Promise (claim 1 0) None) ∷ [])
 waits : building.claim ≡ Some (record { unit = 0; host = 3; progress = Building (claim 1 0) })
 waits = refl
 
--- what is built is the record of the job and the files
+-- the build is the record of the job with the files
 abbrev the_build : Value
 the_build = build_by building 0 (job_of building 0 3 (claim 1 0)) given
 
@@ -97,7 +97,7 @@ built_record :
     } ∷ []
 built_record = refl
 
--- built again while votes come in is refused, and so is a build without a claim
+-- a second Built while waiting for votes is refused, and so is one without a claim
 abbrev voting : State
 voting = known building (promised 1 (claim 1 0)) (Some (Voting (ballot (claim 1 0) the_build) []))
 
@@ -107,7 +107,7 @@ built_again = refl
 built_without_claim : builds (newcomer three 0) given 0 ≡ Err refusals.NoClaim
 built_without_claim = refl
 
--- a nudge proposes to all, and once member 0 voted, to the others
+-- a nudge proposes to all, and after member 0 voted, to the others
 nudge_all : out (nudges voting voting.claim)
     ≡ (0, Propose (claim 1 0) the_build) ∷ (1, Propose (claim 1 0) the_build) ∷
     (2, Propose (claim 1 0) the_build) ∷ []
@@ -125,7 +125,7 @@ vote_again : hears one_vote 0 0 (Vote (claim 1 0)) ≡ record
     { note = None; sends = []; job = None; claim = one_vote.claim }
 vote_again = refl
 
--- at a majority the build is held, the others are told, and the claim is done with
+-- at a majority the build is held and sent to the others, and the claim is closed
 held_at_a_majority : (hears one_vote 0 1 (Vote (claim 1 0))).note ≡ Some
     (note (fact.Held the_build))
 held_at_a_majority = refl
@@ -140,7 +140,8 @@ holder = after_hearing one_vote ((1, Vote (claim 1 0)) ∷ [])
 is_done : holder.claim ≡ None
 is_done = refl
 
--- whatever comes again gives the same, or a nay: only the offer, which is voted under now
+-- a repeated message gets the same answer; only the offer is rejected, since there is a vote for
+-- its claim now
 late_offer : said_to (hears holder 0 0 (Offer (claim 1 0))).sends ≡ (0, Nay (claim 1 0) (claim 1 0))
     ∷ []
 late_offer = refl
@@ -157,14 +158,14 @@ late_promise = refl
 
 -- ---- another member takes over
 
--- member 2 voted under member 0's claim, and promises a greater one with its vote
+-- member 2 voted under member 0's claim, and promises a greater one with its vote as the report
 reports : (v : Value) →
     said_to (hears (known (newcomer three 2) (voted 0 (ballot (claim 1 0) v)) None) 0 1
     (Offer (claim 1 1))).sends
     ≡ (1, Promise (claim 1 1) (Some (claim 1 0, v))) ∷ []
 reports v = refl
 
--- member 1 proposes what was reported, and has no job
+-- member 1 proposes the reported build, and has no job
 abbrev taking_over : State
 taking_over = known (newcomer three 1) (promised 1 (claim 1 1))
     (Some (Gathering (claim 1 1) (1 ∷ []) None))
@@ -180,7 +181,7 @@ no_job v = refl
 
 -- ---- rounds, restarts and refusals
 
--- after a restart the next round is opened, and no claim is open
+-- after a restart no claim is open, and the next round is opened
 next_round :
     noted (answer (restored (newcomer three 0) (note (fact.Opened 1) ∷ [])) letters.Q
     (inputs.Claim (codes "a/b") 3 0))
@@ -207,7 +208,7 @@ waiting = refl
 held_again : answer holder letters.B (inputs.Claim (codes "a/b") 3 0) ≡ Err refusals.Held
 held_again = refl
 
--- that it waits is tested before the round
+-- waiting is tested before the round
 waiting_before_spent : answer (newcomer three 0) letters.T
     (inputs.Claim (codes "a/b") 3 9223372036854775807) ≡ Err refusals.Waiting
 waiting_before_spent = refl
@@ -225,13 +226,13 @@ twice_given = refl
 
 -- ---- weights
 
--- two of weight 1 are no majority beside one of weight 3
+-- two of weight 1 are not a majority against one of weight 3
 no_job_of_the_light :
     (hears (known (newcomer heavy_last 0) (promised 1 (claim 1 0))
     (Some (Gathering (claim 1 0) (1 ∷ []) None))) 0 0 (Promise (claim 1 0) None)).job ≡ None
 no_job_of_the_light = refl
 
--- the heavy one is a majority by itself
+-- the heavy one is a majority on its own
 job_of_the_heavy :
     (hears (known (newcomer heavy_last 2) (promised 1 (claim 1 2))
     (Some (Gathering (claim 1 2) [] None))) 0 2 (Promise (claim 1 2) None)).job
@@ -263,7 +264,7 @@ found_by_path = refl
 found_by_name : unit_in pair (codes "a/b") ≡ Some 0
 found_by_name = refl
 
--- a message names it by its name alone
+-- a message names the unit only by its name
 named_alone : number_named two_packages (codes "a/b,-y") ≡ None
 named_alone = refl
 

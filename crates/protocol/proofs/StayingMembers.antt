@@ -1,4 +1,4 @@
--- An answer leaves a member that is one.
+-- An answer leaves a valid member.
 use Rattle.std.proofs.Common.{◌≡◌, ◌==◌, ◌<◌, ◌≤◌, ◌*◌, ℕ, true, false, All, List, [], ◌∷◌, Option}
 use Rattle.std.proofs.Common.{Some, None, arith, eqb-true, refl, sym, subst, ap, ◌∙◌, length}
 use Rattle.std.proofs.Common.{option_map, sum}
@@ -7,14 +7,14 @@ use Rattle.std.specs.Option.{ForSome}
 use Rattle.std.proofs.lemmas.Bool.{cond-false, cond-true, cond_both, eq-eqb, eqb-false, ne_eqb}
 use Rattle.std.proofs.lemmas.Bool.{le-ltb}
 use Rattle.std.proofs.lemmas.List.Elements.{All-weaker}
-use Rattle.agreement.specs.Noted.{IsClosedWhereHeld, IsNoted}
-use Rattle.agreement.specs.Quorums.{is_majority, named_in, nobody, weight}
-use Rattle.agreement.specs.Member as members
-use Rattle.agreement.specs.Member.{Facts, facts_of, no_facts, noted_any}
-use Rattle.agreement.specs.Nodes as nodes
-use Rattle.agreement.specs.Step.{Outcome}
-use Rattle.agreement.specs.World.{put}
-use Rattle.agreement.specs.declared.claim.Claim.{Claim}
+use Rattle.claims.specs.Noted.{IsClosedWhereHeld, IsNoted}
+use Rattle.claims.specs.Quorums.{is_majority, named_in, nobody, weight}
+use Rattle.claims.specs.Member as members
+use Rattle.claims.specs.Member.{Facts, facts_of, no_facts, noted_any}
+use Rattle.claims.specs.Nodes as nodes
+use Rattle.claims.specs.Step.{Outcome}
+use Rattle.claims.specs.World.{put}
+use Rattle.claims.specs.declared.claim.Claim.{Claim}
 use Rattle.claims.specs.Claim.{IsClaim}
 use Rattle.engine.specs.Division.{unit_at}
 use Rattle.engine.proofs.Names.{name_is_found}
@@ -38,11 +38,11 @@ pub record IsOwn (s : State) (u at : ℕ) (c : Claim) : Type 0 where
   pub own : c.member ≡ s.me
   pub ready : All (λ p. holds_package s p ≡ true) (unit_at s.division u).build
 
--- The stage is that of such a claim, which waits for members.
+-- The stage is that of such a claim, which waits for more members.
 abbrev pub IsGood : State → ℕ → ℕ → members.Stage Value → Type 0
 IsGood s u host stage = IsGoodStage (IsOwn s u host) (is_majority s.weights) stage
 
--- nobody is no majority
+-- the empty set is not a majority
 nobody_weighs : (ws : List ℕ) → weight ws nobody ≡ 0
 nobody_weighs [] = refl
 nobody_weighs (w ∷ ws) = let rest = nobody_weighs ws in omega (arith, rest)
@@ -51,7 +51,7 @@ pub nobody_is_short : (ws : List ℕ) → is_majority ws nobody ≡ false
 nobody_is_short ws = le-ltb (sum ws) (2 * weight ws nobody)
     (let none = nobody_weighs ws in omega (arith, none))
 
--- ---- the claim that is open is such
+-- ---- the open claim satisfies this
 
 open_is_good : (s : State) (u host : ℕ) (p : Progress) → IsOwn s u host (claim_in p)
     → is_majority s.weights (named_in (joined_so_far p)) ≡ false
@@ -77,18 +77,18 @@ view_is_good s u is = good_by_claim s u s.claim is.claim
 
 -- ---- the claim that an answer leaves
 
--- who has an open claim does not hold
+-- a member with an open claim does not hold the unit
 not_held_while_open : {V : Type 0} (h : Option V) (stage : members.Stage V)
     → IsClosedWhereHeld h stage → (stage ≡ members.Closed → ⊥) → h ≡ None
 not_held_while_open None stage closed is_open = refl
 not_held_while_open (Some v) stage closed is_open = absurd (is_open closed)
 
--- what holds of the value holds if it is there
+-- what holds of the value holds of it as an option
 for_this : {X : Type 0} (P : X → Type 0) (x : X) → P x → ForSome (Some x) P
 for_this P x holds y e = subst P (ap (λ o. unwrap_or o x) e) holds
 
--- What an answer leaves: a member that is one, and if a claim is open, all that its build needs was
--- held before.
+-- The effect of an answer: the member stays valid, and if a claim is open, everything that its
+-- build needs was held before.
 pub record IsLeft (s : State) (a : Answer) : Type 0 where
   pub member : IsMember (after s a)
   pub ready : ForSome a.claim (IsReady s)
@@ -110,7 +110,7 @@ module _ (s : State) (u host : ℕ) (to : List ℕ) (o : Outcome Value) (is : Is
       (λ p held. package_stays_held s (answered s u host to o) p held) (unit_at s.division v).build
       ready
 
-  -- a claim for another unit stays as it is
+  -- a claim for another unit stays the same
   other_stays : (p : OpenClaim) → IsOpen s p → (u == p.unit) ≡ false → IsOpen left p
   other_stays p good other = record {
     unit = good.unit;
@@ -199,7 +199,7 @@ module _ (s : State) (u host : ℕ) (to : List ℕ) (o : Outcome Value) (is : Is
   claim_was_ready (members.Voting b S) good =
       for_this (IsReady s) _ (record { unit = lt; ready = good.0.ready })
 
-  -- So it is one, where the outcome's claim is such.
+  -- So the member stays valid, if the outcome's claim satisfies this.
   still_a_member : IsFit (length s.weights) s.me o → IsGood s u host o.member.stage
       → IsMember left
   still_a_member fit good = record {

@@ -11,14 +11,14 @@ use Rattle.std.specs.Prelude.{All, slice_set}
 use Rattle.std.specs.Option.{ForSome}
 use Rattle.faults.specs.Bytes.{Text}
 use Rattle.ballots.specs.declared.message.Note.{Note}
-use Rattle.agreement.specs.Quorums.{Members, named_in}
-use Rattle.agreement.specs.Member as members
-use Rattle.agreement.specs.Member.{Facts, facts_of, no_facts, noted, noted_any}
-use Rattle.agreement.specs.Messages as messages
-use Rattle.agreement.specs.Nodes as nodes
-use Rattle.agreement.specs.Step.{Outcome}
-use Rattle.agreement.specs.World.{put}
-use Rattle.agreement.specs.Votes.{Ballot, report_of}
+use Rattle.claims.specs.Quorums.{Members, named_in}
+use Rattle.claims.specs.Member as members
+use Rattle.claims.specs.Member.{Facts, facts_of, no_facts, noted, noted_any}
+use Rattle.claims.specs.Messages as messages
+use Rattle.claims.specs.Nodes as nodes
+use Rattle.claims.specs.Step.{Outcome}
+use Rattle.claims.specs.World.{put}
+use Rattle.claims.specs.Votes.{Ballot, report_of}
 use Rattle.ballots.specs.InTheAgreement.{note_of, said}
 use Rattle.engine.specs.Division.{number_named}
 use Rattle.engine.proofs.Lists.{in_range}
@@ -28,7 +28,7 @@ use Rattle.protocol.specs.InTheAgreement.{progress_of}
 use Rattle.protocol.specs.Answers.{after, answered, claim_then, dropped, note_at, sends_of}
 use Rattle.protocol.specs.Laws.{IsOutcome, Says}
 
--- a set whose members are below n has those that are named of it
+-- if the members of a set are below n, listing it keeps its members
 pub named : (n : ℕ) (S : Members) → ((k : ℕ) → S k ≡ true → k < n) → (k : ℕ)
     → named_in (members_in n S) k ≡ S k
 named n S within k =
@@ -40,14 +40,14 @@ named n S within k =
       | inr f ↦ same ∙ ap (λ a. a && list_any (λ j. j == k) (range_with_len 0 n)) f ∙ sym f
     ]
 
--- the set that a stage counts has members below n alone
+-- the set counted at a stage has only members below n
 abbrev pub IsWithin : ℕ → members.Stage Value → Type 0
 IsWithin n members.Closed = Unit {0}
 IsWithin n (members.Gathering c S k) = (m : ℕ) → S m ≡ true → m < n
 IsWithin n (members.Building c) = Unit {0}
 IsWithin n (members.Voting b S) = (m : ℕ) → S m ≡ true → m < n
 
--- once the claim that is for u, or none, is dropped
+-- after the claim for u, if there is one, is dropped
 dropped_is : (old : Option OpenClaim) (u : ℕ)
     → option_map claim_of (dropped old u) ≡ nodes.claim_then (option_map claim_of old) u
     members.Closed
@@ -59,7 +59,7 @@ dropped_is (Some o) u = by_test (u == o.unit)
     by_test true = refl
     by_test false = refl
 
--- a claim at this stage is the theory's
+-- the claim at this stage is the theory's
 claim_is : (old : Option OpenClaim) (u host n : ℕ) (stage : members.Stage Value) → IsWithin n stage
     → option_map claim_of (claim_then old u host (progress_of n stage)) ≡ nodes.claim_then
     (option_map claim_of old) u stage
@@ -77,14 +77,14 @@ claim_is None u host n (members.Voting b S) within =
 claim_is (Some o) u host n (members.Voting b S) within =
     ap (λ T. Some (record { path = u; stage = members.Voting b T })) (λ i m. named n S within m i)
 
--- a note is the note of its fact
+-- a note is restored from its fact
 note_again : (note : members.Note Value) → note_of (fact_in note) ≡ note
 note_again (members.Opened round) = refl
 note_again (members.Promised c) = refl
 note_again (members.Voted b) = refl
 note_again (members.Held v) = refl
 
--- what is set at u is put there
+-- setting the element at u agrees with the theory
 set_is_put : (facts : List (Facts Value)) (u q : ℕ) (f : Facts Value) → u < length facts
     → slice_index_or (slice_set facts u f) q no_facts ≡ put (λ p. slice_index_or facts p no_facts) u
     f q
@@ -96,7 +96,7 @@ set_is_put facts u q f lt =
           ∙ sym (cond-false (q == u) _ _ e)
     ]
 
--- what was there is put there
+-- putting what is there changes nothing
 put_same : (facts : ℕ → Facts Value) (u q : ℕ) (f : Facts Value) → f ≡ facts u
     → facts q ≡ put facts u f q
 put_same facts u q f e =
@@ -134,8 +134,8 @@ node_is s u host to o lt named noted_is up within = λ i. record {
 
 -- ---- what is said
 
--- Whether member m says this: who promises, votes or turns down is named in what is said, and who
--- turns down has promised.
+-- Whether member m can say this: the member named in a promise, vote or rejection is m, and a
+-- rejection comes with a promise.
 abbrev pub IsSaidBy : ℕ → messages.Message Value → Type 0
 IsSaidBy m (messages.Promise p) = p.member ≡ m
 IsSaidBy m (messages.Vote k c) = k ≡ m
@@ -146,12 +146,12 @@ IsSaidBy m (messages.Propose b) = Unit {0}
 IsSaidBy m (messages.Agreed v) = Unit {0}
 IsSaidBy m messages.Ask = Unit {0}
 
--- a report is the report of its pair
+-- a report is restored from its pair
 report_again : (r : Option (Ballot Value)) → report_of (option_map pair_of r) ≡ r
 report_again None = refl
 report_again (Some b) = refl
 
--- the body of what the member says is said so
+-- what the member says is restored from its body
 pub said_again : (m : ℕ) (y : messages.Message Value) → IsSaidBy m y → said m (body_in y) ≡ y
 said_again m (messages.Promise p) by =
     ap₂ (λ k r. messages.Promise (record { member = k; claim = p.claim; report = r })) (sym by)
@@ -180,25 +180,25 @@ all_say s u y by (k ∷ ks) =
     })
     (all_say s u y by ks)
 
--- what is said, if anything is, is said by the member
+-- what is said, if anything, is said by the member
 abbrev pub IsSaidByAny : ℕ → Option (messages.Message Value) → Type 0
 IsSaidByAny m None = Unit {0}
 IsSaidByAny m (Some y) = IsSaidBy m y
 
--- so do all of a step
+-- this holds for all messages of a step
 all_say_any : (s : State) (u : ℕ) (to : List ℕ) (said : Option (messages.Message Value))
     → IsSaidByAny s.me said
     → All (λ x. Says s u said x.message) (sends_of s u to said)
 all_say_any s u to None by = All-nil (λ x. Says s u None x.message)
 all_say_any s u to (Some y) by = all_say s u y by to
 
--- the note's fact is what is noted
+-- the fact of the note is what is noted
 noted_again : (s : State) (u : ℕ) (n : Option (members.Note Value))
     → option_map (λ x. note_of x.fact) (option_map (note_at s u) n) ≡ n
 noted_again s u None = refl
 noted_again s u (Some n) = ap (λ x. Some x) (note_again n)
 
--- the note names the unit
+-- the note is about the unit
 note_named : (s : State) (u : ℕ) (n : Option (members.Note Value))
     → ForSome (option_map (note_at s u) n) (λ x. x.path ≡ name_at s u)
 note_named s u None = λ x e. absurd (let none : None ≡ Some x = e in cc)
@@ -208,7 +208,7 @@ note_named s u (Some n) = λ x e. sym (ap path_in e)
     path_in None = []
     path_in (Some x) = x.path
 
--- An answer is the outcome that it is made of.
+-- An answer corresponds to the outcome from which it is made.
 pub outcome_is : (s : State) (u host : ℕ) (to : List ℕ) (o : Outcome Value)
     → u < length s.facts → number_named s.division (name_at s u) ≡ Some u
     → facts_of o.member ≡ noted_any (facts_at s u) o.note → o.member.up ≡ true

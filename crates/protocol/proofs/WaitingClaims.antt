@@ -1,20 +1,20 @@
--- A claim that waits for a build came to wait by a promise, in a step that gives its job, or waited
--- before.
+-- A claim that waits for a build began to wait because of a promise, in a step that gives its job,
+-- or waited before.
 use Rattle.std.proofs.Common.{◌≡◌, ◌==◌, ◌&&◌, ◌⊎◌, not, ℕ, Bool, true, false, List, [], ◌∷◌}
 use Rattle.std.proofs.Common.{Option, Some, None, Ok, Err, IfSome, eqb-true, refl, sym, subst, ap}
 use Rattle.std.proofs.Common.{◌∙◌, inl, inr, if◌then◌else◌, length, option_map}
 use Rattle.std.specs.Prelude.{unwrap_or}
 use Rattle.std.proofs.lemmas.Bool.{cond_both}
-use Rattle.agreement.specs.declared.claim.Claim.{Claim}
-use Rattle.agreement.specs.Claims.{claim_same, is_above, is_below, is_promised}
-use Rattle.agreement.specs.Quorums.{Quorums, is_majority, with_member}
-use Rattle.agreement.specs.Votes.{Ballot, is_voted, kept_report, report_of}
-use Rattle.agreement.specs.Member as members
-use Rattle.agreement.specs.Nodes as nodes
-use Rattle.agreement.specs.Step.{Outcome, on_agreed, on_ask, on_built, on_failed, on_inquire}
-use Rattle.agreement.specs.Step.{on_message, on_nudge, on_offer, on_promise, on_propose, on_quorum}
-use Rattle.agreement.specs.Step.{on_start, on_vote}
-use Rattle.agreement.proofs.Order.{claim_same_true}
+use Rattle.claims.specs.declared.claim.Claim.{Claim}
+use Rattle.claims.specs.Claims.{claim_same, is_above, is_below, is_promised}
+use Rattle.claims.specs.Quorums.{Quorums, is_majority, with_member}
+use Rattle.claims.specs.Votes.{Ballot, is_voted, kept_report, report_of}
+use Rattle.claims.specs.Member as members
+use Rattle.claims.specs.Nodes as nodes
+use Rattle.claims.specs.Step.{Outcome, on_agreed, on_ask, on_built, on_failed, on_inquire}
+use Rattle.claims.specs.Step.{on_message, on_nudge, on_offer, on_promise, on_propose, on_quorum}
+use Rattle.claims.specs.Step.{on_start, on_vote}
+use Rattle.claims.proofs.Order.{claim_same_true}
 use Rattle.ballots.specs.InTheAgreement.{is_building, said}
 use Rattle.ballots.specs.declared.message.Body.{Body}
 use Rattle.ballots.specs.declared.message.Body.TheVariants as bodies
@@ -42,7 +42,8 @@ use Rattle.protocol.specs.declared.refusal.Refusal.TheVariants as refusals
 use Rattle.protocol.proofs.Answering.{answer_in, has_unit, not_refused}
 use Rattle.protocol.proofs.Asked.{by_outcome, of_this, stage_is, without_job}
 
--- ---- in the theory: who waits on a message waited before, or is promised the claim
+-- ---- in the theory: a member that waits after a message waited before, or the message is a
+-- promise of its claim
 
 module _ (x : members.Member Value) (c : Claim) where
   -- if the outcome waits for a build under the claim, so did the member
@@ -80,13 +81,13 @@ module _ (x : members.Member Value) (c : Claim) where
   ask_waited None e = e
   ask_waited (Some v) e = e
 
-  -- the member didn't wait, and the body promises the claim
+  -- the member didn't wait, and the body is a promise of the claim
   abbrev Promised : Body Value → Type 0
   Promised body =
       (is_building x.stage ≡ false) × (report : Option (Claim × Value))
       × (body ≡ bodies.Promise c report)
 
-  -- if the outcome waits under the claim, so did the member, or this is a promise of it
+  -- if the outcome waits under the claim, so did the member, or the body is a promise of the claim
   abbrev WaitedOrPromised : Body Value → Outcome Value → Type 0
   WaitedOrPromised body o =
       o.member.stage ≡ members.Building c → (x.stage ≡ members.Building c) ⊎ Promised body
@@ -116,7 +117,7 @@ module _ (x : members.Member Value) (c : Claim) where
       r : Option (Ballot Value)
       r = kept_report k (report_of report)
 
-  -- whatever comes
+  -- whatever message arrives
   message_waited : (enough : Quorums) (me from : ℕ) (body : Body Value)
       → WaitedOrPromised body (on_message enough me x (said from body))
   message_waited enough me from (bodies.Offer d) e = inl (offer_waited me d e)
@@ -128,13 +129,13 @@ module _ (x : members.Member Value) (c : Claim) where
   message_waited enough me from (bodies.Agreed v) e = inl (agreed_waited x.held v e)
   message_waited enough me from bodies.Ask e = inl (ask_waited x.held e)
 
--- ---- the claim that a member's answer leaves
+-- ---- the claim after a member's answer
 
 -- the claim that waits for a build
 abbrev waiting : ℕ → ℕ → Claim → OpenClaim
 waiting u host c = record { unit = u; host = host; progress = Building c }
 
--- the claim that is open, where it waits for a build of the unit
+-- the open claim, if it waits for a build of the unit
 is_waiting_claim : (u : ℕ) (claim : Option OpenClaim) (c : Claim)
     → nodes.stage_at (option_map claim_of claim) u ≡ members.Building c
     → claim ≡ Some (waiting u (host_in claim) c)
@@ -157,7 +158,7 @@ is_waiting_claim u (Some q) c e = by_test (u == q.unit) refl e
         λ i. Some (record { unit = unit i; host = q.host; progress = progress i })
     by_test false t e = absurd (let no : members.Closed ≡ members.Building c = e in cc)
 
--- what is left of a claim that is dropped was there
+-- a claim that remains after one is dropped was there before
 dropped_was : (claim : Option OpenClaim) (u : ℕ) (p : OpenClaim) → dropped claim u ≡ Some p
     → claim ≡ Some p
 dropped_was None u p e = e
@@ -167,13 +168,13 @@ dropped_was (Some q) u p e = by_test (u == q.unit) e
     by_test true e = absurd (let no : None ≡ Some p = e in cc)
     by_test false e = e
 
--- Who waits after the step waited before it under that claim, on that host.
+-- If the outcome waits, the member waited before under that claim, for that host.
 abbrev Waits : State → ℕ → ℕ → Outcome Value → Type 0
 Waits s u host o =
     (c : Claim) → o.member.stage ≡ members.Building c
     → ((view s u).stage ≡ members.Building c) × (host ≡ host_in s.claim)
 
--- so the claim that is left stood there
+-- so the remaining claim was there before
 stood_before : (s : State) (u host : ℕ) (o : Outcome Value) → Waits s u host o
     → (stage : members.Stage Value) → o.member.stage ≡ stage → (p : OpenClaim) (c : Claim)
     → claim_then s.claim u host (progress_of (length s.weights) stage) ≡ Some p
@@ -199,7 +200,7 @@ asked_stood f s u host to o a waits e p c left is =
     stood_before s u host made.0 this made.0.member.stage refl p c
     (ap (λ (a : Answer). a.claim) made.2 ∙ left) is
 
--- a claim that is opened, built or dropped does not wait
+-- an input that opens, builds or drops a claim doesn't make it wait
 start_waits : (s : State) (u host : ℕ) (h : Option Value) (above : ℕ)
     → IfSome (on_start s.me (view s u) h above) (Waits s u host)
 start_waits s u host (Some v) above = tt
@@ -239,7 +240,7 @@ built_stood s u given (members.Building d) a e =
     (built_waits s u (host_in s.claim) (view s u).stage build)
     (not_refused (files_refusal s u given build) _ a e).1
 
--- a nudge leaves the claim as it is
+-- a nudge leaves the claim unchanged
 nudge_stage : (x : members.Member Value) (s : members.Stage Value) (o : Outcome Value)
     → on_nudge x s ≡ Some o → o.member.stage ≡ x.stage
 nudge_stage x members.Closed o e = absurd (let no : None ≡ Some o = e in cc)
@@ -274,13 +275,13 @@ nudged_stood s (Some o) a at e p c open_is waits =
     by_progress (Building d) is e =
         at ∙ ((λ i. Some (record { unit = o.unit; host = o.host; progress = is i })) ∙ e)
 
--- The claim waited before, or came to wait by a promise, and its job is given.
+-- The claim waited before, or began to wait because of a promise, and its job is given.
 abbrev Comes : State → Input → Answer → OpenClaim → Claim → Type 0
 Comes s input a p c =
     (s.claim ≡ Some p)
     ⊎ ((a.job ≡ Some (job_of s p.unit p.host c)) × IsPromiseOf s p.unit c input)
 
--- a message for the unit, on which the theory's member does this
+-- a message about the unit, for which the theory's member has this outcome
 heard_comes : (s : State) (m : Message Value) (a : Answer) (u : ℕ)
     → number_named s.division m.path ≡ Some u → (o : Outcome Value)
     → ((c : Claim) → WaitedOrPromised (view s u) c m.body o)
@@ -354,7 +355,7 @@ by_input s letter (inputs.Message m) a e p c left is =
     outcome.member.stage refl (ap (λ (a : Answer). a.job) (sym same)) p c
     (ap (λ (a : Answer). a.claim) same ∙ left) is
 
--- behind an input that is no message it waited before
+-- after an input that is not a message, the claim waited before
 pub waited_before : (s : State) (letter : Letter) (input : Input) (a : Answer)
     → IsNoMessage input → answer s letter input ≡ Ok a
     → (p : OpenClaim) (c : Claim) → a.claim ≡ Some p → p.progress ≡ Building c → s.claim ≡ Some p

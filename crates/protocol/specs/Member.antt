@@ -1,8 +1,8 @@
--- What holds of each member, whatever it is asked, and what of each input.
+-- The invariant of members and of inputs.
 use Rattle.std.specs.Prelude.{◌≡◌, ◌<◌, ◌≤◌, ℕ, true, false, All, List, [], None, Some, length}
 use Rattle.std.specs.Option.{ForSome}
-use Rattle.agreement.specs.Quorums.{is_majority, named_in}
-use Rattle.agreement.specs.declared.claim.Claim.{Claim}
+use Rattle.claims.specs.Quorums.{is_majority, named_in}
+use Rattle.claims.specs.declared.claim.Claim.{Claim}
 use Rattle.claims.specs.Claim.{IsClaim}
 use Rattle.engine.specs.Division.{IsDivision, unit_at}
 use Rattle.ballots.specs.Pledge.{HasPromised}
@@ -13,7 +13,7 @@ use Rattle.protocol.specs.InTheAgreement.{progress_of, stage_of}
 use Rattle.protocol.specs.declared.input.Input.{Input}
 use Rattle.protocol.specs.declared.input.Input.TheVariants as inputs
 
--- the claim that is open
+-- the claim whose progress this is
 abbrev pub claim_in : Progress → Claim
 claim_in (Gathering c joined k) = c
 claim_in (Building c) = c
@@ -25,9 +25,8 @@ joined_so_far (Gathering c joined k) = joined
 joined_so_far (Building c) = []
 joined_so_far (Voting b joined) = joined
 
--- An open claim is for a unit that is not held, is the member's own, and has all that the unit's
--- build needs held. Those that joined are members, each once, in order of number, and are no
--- majority yet.
+-- An open claim is the member's own, for a unit that is not held and whose build needs only what is
+-- held. Those that joined are members, each once, in order of number, and not yet a majority.
 pub record IsOpen (s : State) (o : OpenClaim) : Type 0 where
   pub unit : o.unit < length s.division.units
   pub not_held : (facts_at s o.unit).held ≡ None
@@ -38,17 +37,17 @@ pub record IsOpen (s : State) (o : OpenClaim) : Type 0 where
   pub short : is_majority s.weights (named_in (joined_so_far o.progress)) ≡ false
   pub ready : All (λ p. holds_package s p ≡ true) (unit_at s.division o.unit).build
 
--- what holds of each member
+-- the invariant of a member
 pub record IsMember (s : State) : Type 0 where
   pub division : IsDivision s.division
   pub weights : AreWeights s.weights
   pub one_of_them : s.me < length s.weights
   pub each : length s.facts ≡ length s.division.units
-  -- who voted has promised
+  -- a member that has promised nothing has voted for nothing
   pub pledged : All (λ f. HasPromised f.promised f.voted) s.facts
   pub claim : ForSome s.claim (IsOpen s)
 
--- the host of an input is one
+-- The input's host number is in range.
 abbrev pub IsInput : Input → Type 0
 IsInput (inputs.Claim path host above) = host ≤ 65535
 IsInput (inputs.Built path given) = Unit {0}

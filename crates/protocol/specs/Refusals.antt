@@ -7,7 +7,7 @@ use Rattle.protocol.specs.declared.refusal.Refusal.TheVariants.{Held, NoClaim, R
 use Rattle.protocol.specs.declared.refusal.Refusal.TheVariants.{BadFiles, OtherTree, NotAMember}
 use Rattle.protocol.specs.declared.refusal.Refusal.TheVariants.{OtherPackages}
 
--- the number by which each refusal is told
+-- the number of each refusal
 abbrev pub number_of : Refusal → ℕ
 number_of Memory = 1
 number_of Unlisted = 901
@@ -21,7 +21,7 @@ number_of OtherTree = 908
 number_of NotAMember = 909
 number_of OtherPackages = 910
 
--- the number of the fault that is behind it, if there is one
+-- the number of the underlying fault, if there is one
 abbrev pub cause_of : Refusal → Option ℕ
 cause_of Memory = None
 cause_of Unlisted = None

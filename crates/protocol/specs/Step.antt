@@ -1,6 +1,6 @@
--- The member's step. What it notes, says and makes of its claim is what the theory's member does,
--- in the words of crate agreement; here stand who is refused, in the order of the tests, and who
--- gets what is said.
+-- The member's step. The theory (crate agreement) says what the member notes, what it says, and
+-- what becomes of its claim. This file says which inputs are refused, in the order of the tests,
+-- and who receives what is said.
 use Rattle.std.specs.Prelude.{◌≡◌, ℕ, max, Bool, true, false, not, nat_le, nat_lt, List, [], ◌∷◌}
 use Rattle.std.specs.Prelude.{Option, None, Some, is_none, is_some, length, option_and_then, option_map, Result, Ok}
 use Rattle.std.specs.Prelude.{Err, if◌then◌else◌}
@@ -8,17 +8,17 @@ use Rattle.std.specs.List.{list_all}
 use Rattle.std.specs.Str.{bytes_eq}
 use Rattle.faults.specs.Answers.{IsRightUnless, first_that_applies, option_or, unless_fault}
 use Rattle.faults.specs.Bytes.{Text}
-use Rattle.agreement.specs.Quorums.{is_majority}
-use Rattle.agreement.specs.Member as members
-use Rattle.agreement.specs.Member.{Facts, no_facts}
-use Rattle.agreement.specs.Step.{Outcome, on_built, on_failed, on_inquire, on_message, on_nudge}
-use Rattle.agreement.specs.Step.{on_start}
+use Rattle.claims.specs.Quorums.{is_majority}
+use Rattle.claims.specs.Member as members
+use Rattle.claims.specs.Member.{Facts, no_facts}
+use Rattle.claims.specs.Step.{Outcome, on_built, on_failed, on_inquire, on_message, on_nudge}
+use Rattle.claims.specs.Step.{on_start}
 use Rattle.claims.specs.Claim.{greatest_round}
 use Rattle.claims.specs.Job.{Task}
 use Rattle.engine.specs.declared.Letter.{Letter}
 use Rattle.engine.specs.declared.Letter.TheVariants as letters
 use Rattle.engine.specs.Division.{number_found, number_named}
-use Rattle.listing.specs.Tree.{position_of}
+use Rattle.engine.specs.Tree.{position_of}
 use Rattle.package_record.specs.Making.{build_fault}
 use Rattle.ballots.specs.InTheAgreement.{said}
 use Rattle.ballots.specs.declared.message.Body.{Body}
@@ -40,28 +40,28 @@ use Rattle.protocol.specs.declared.input.Input.TheVariants as inputs
 
 -- ---- how a step is put together
 
--- the refusal, if there is one, and else the answer
+-- the refusal if there is one, or else the answer
 abbrev pub unless : Option Refusal → Result Answer Refusal → Result Answer Refusal
 unless None answer = answer
 unless (Some refusal) answer = Err refusal
 
--- the answer for the unit, or this refusal where there is no unit
+-- the answer for the unit, or this refusal if there is no unit
 abbrev pub at_unit : Refusal → (ℕ → Result Answer Refusal) → Option ℕ → Result Answer Refusal
 at_unit refusal answer None = Err refusal
 at_unit refusal answer (Some u) = answer u
 
--- the answer by what the theory's member does, or this refusal where it refuses
+-- the answer from the outcome of the theory's member, or this refusal if that member refuses
 abbrev pub answered_or : Refusal → State → ℕ → ℕ → List ℕ → Option (Outcome Value)
     → Result Answer Refusal
 answered_or refusal s u host to None = Err refusal
 answered_or refusal s u host to (Some outcome) = Ok (answered s u host to outcome)
 
--- the host of the open claim; read only where one is open
+-- the host of the open claim; read only if one is open
 abbrev pub host_in : Option OpenClaim → ℕ
 host_in None = 0
 host_in (Some o) = o.host
 
--- The unit that a path of an input names: by its name, and else as one of its packages.
+-- The unit that the path of an input names: by the unit's name, or else as one of its packages.
 abbrev pub unit_in : State → Text → Option ℕ
 unit_in s path = number_found s.division path
 
@@ -70,10 +70,9 @@ abbrev pub stranger : State → Text → Refusal
 stranger s path = if is_some (position_of s.division.tree path) then refusals.Ignored else
     refusals.Unlisted
 
--- ---- Claim: a round above the one asked for and all that the member opened is noted, and the
--- claim offered to all
+-- ---- Claim: open a claim in a new round, and offer it to all
 
--- Whether the letter says that the unit waits for what its build needs.
+-- Whether the letter means that the unit waits for what its build needs.
 abbrev pub is_waiting : Letter → Bool
 is_waiting letters.T = true
 is_waiting _ = false
@@ -86,7 +85,7 @@ claim_refusal s letter above u = first_that_applies (
     ∷ (nat_le greatest_round (max above (facts_at s u).opened), refusals.RoundsSpent)
     ∷ [])
 
--- a claim for the unit is opened
+-- opens a claim for the unit
 abbrev pub claims : State → Letter → ℕ → ℕ → ℕ → Result Answer Refusal
 claims s letter host above u =
     unless (claim_refusal s letter above u)
@@ -102,19 +101,19 @@ files_refusal s u given build = option_or
     (first_that_applies ((not (are_given (paths_at s u) given), refusals.OtherPackages) ∷ []))
     (option_map refusals.BadFiles (build_fault build))
 
--- the build of the unit by the job, or why the files make none
+-- the build of the unit by the job, or why the files don't make one
 abbrev pub made_by : State → ℕ → Task → Given → Result Value Refusal
 made_by s u job given =
     unless_fault (files_refusal s u given (build_by s u job given)) (build_by s u job given)
 
--- the build goes to all as the claim's proposal
+-- sends the build to all as the claim's proposal
 abbrev pub proposes : State → ℕ → ℕ → Given → Value → Result Answer Refusal
 proposes s u host given build =
     unless (files_refusal s u given build)
     (answered_or refusals.NoClaim s u host (everyone s)
     (on_built (view s u) (view s u).stage build))
 
--- the claim's host made what its job says, of these files
+-- proposes what the claim's job makes of these files; refused unless the claim waits for a build
 abbrev pub builds_under : State → ℕ → ℕ → Given → members.Stage Value → Result Answer Refusal
 builds_under s u host given (members.Building c) =
     proposes s u host given (build_by s u (job_of s u host c) given)
@@ -122,30 +121,30 @@ builds_under s u host given members.Closed = Err refusals.NoClaim
 builds_under s u host given (members.Gathering c S k) = Err refusals.NoClaim
 builds_under s u host given (members.Voting b S) = Err refusals.NoClaim
 
--- the build of the unit is made
+-- proposes the build of the unit
 abbrev pub builds : State → Given → ℕ → Result Answer Refusal
 builds s given u = builds_under s u (host_in s.claim) given (view s u).stage
 
--- the claim is dropped
+-- drops the claim
 abbrev pub fails : State → ℕ → Result Answer Refusal
 fails s u = answered_or refusals.NoClaim s u (host_in s.claim) []
     (on_failed (view s u) (view s u).stage)
 
--- ---- Nudge: what the open claim waits for is asked for again
+-- ---- Nudge: ask again for what the open claim waits for
 
--- those that have not answered yet
+-- the members that have not answered yet
 abbrev pub silent : State → Progress → List ℕ
 silent s (Gathering c joined k) = missing s joined
 silent s (Building c) = []
 silent s (Voting b joined) = missing s joined
 
--- the job again, while the claim waits for a build
+-- the job again, if the claim waits for a build
 abbrev pub job_again : State → OpenClaim → Progress → Option Task
 job_again s o (Gathering c joined k) = None
 job_again s o (Building c) = Some (job_of s o.unit o.host c)
 job_again s o (Voting b joined) = None
 
--- the job of the open claim, while that waits for a build
+-- the job of the open claim, if that waits for a build
 abbrev pub job_of_claim : State → Option Task
 job_of_claim s = option_and_then (λ o. job_again s o o.progress) s.claim
 
@@ -154,7 +153,7 @@ abbrev pub with_job : Option Task → Result Answer Refusal → Result Answer Re
 with_job job (Err e) = Err e
 with_job job (Ok a) = Ok (record a { job = job })
 
--- the open claim goes on
+-- asks again for what the open claim waits for
 abbrev pub nudges : State → Option OpenClaim → Result Answer Refusal
 nudges s None = Err refusals.NoClaim
 nudges s (Some o) =
@@ -164,14 +163,14 @@ nudges s (Some o) =
 
 -- ---- Ask
 
--- all others are asked for the agreed build
+-- asks all others for the agreed build
 abbrev pub asks : State → ℕ → Result Answer Refusal
 asks s u = answered_or refusals.Held s u (host_in s.claim) (others s)
     (on_inquire (view s u) (view s u).held)
 
 -- ---- messages
 
--- The members that a body names by claims; that in a record is none of them.
+-- The members named by the claims in a body. Claims inside a record don't count.
 abbrev pub members_of : Body Value → List ℕ
 members_of (Offer c) = c.member ∷ []
 members_of (Promise c None) = c.member ∷ []
@@ -182,8 +181,8 @@ members_of (Agreed v) = []
 members_of Ask = []
 members_of (Nay c promised) = c.member ∷ promised.member ∷ []
 
--- The first that applies: the sender has another tree, a member that is named is none, the path is
--- no unit's name.
+-- The first that applies: the sender has another tree, a number is not a member's, or the path is
+-- not a unit's name.
 abbrev pub header_refusal : State → List ℕ → List ℕ → Text → Option Refusal
 header_refusal s tree named_members path = first_that_applies (
     (not (bytes_eq tree (tree_digest s.division.tree)), refusals.OtherTree)
@@ -191,8 +190,8 @@ header_refusal s tree named_members path = first_that_applies (
     ∷ (is_none (number_named s.division path), refusals.Unlisted)
     ∷ [])
 
--- Who gets what is said to the message: a vote or a promise the claim's member, a proposal all, and
--- what is agreed all others, or who asked for it.
+-- The receivers of the answer to the message: the claim's member gets a promise or a vote, all get
+-- a proposal, and all others, or the member that asked, get the agreed build.
 abbrev pub receivers : State → ℕ → Body Value → List ℕ
 receivers s from (Offer c) = c.member ∷ []
 receivers s from (Promise c report) = everyone s
@@ -202,16 +201,16 @@ receivers s from (Agreed v) = []
 receivers s from Ask = from ∷ []
 receivers s from (Nay c promised) = []
 
--- what the theory's member does when the message comes
+-- the outcome of the theory's member for the message
 abbrev pub outcome_of : State → ℕ → ℕ → Body Value → Outcome Value
 outcome_of s u from body = on_message (is_majority s.weights) s.me (view s u) (said from body)
 
--- the message about the unit is answered
+-- the answer to the message about the unit
 abbrev pub hears : State → ℕ → ℕ → Body Value → Answer
 hears s u from body =
     answered s u (host_in s.claim) (receivers s from body) (outcome_of s u from body)
 
--- a message comes
+-- the answer to a message, or its refusal
 abbrev pub heard : State → Message Value → Result Answer Refusal
 heard s m =
     unless (header_refusal s m.tree (m.sender ∷ members_of m.body) m.path)
@@ -220,8 +219,8 @@ heard s m =
 
 -- ---- the step
 
--- The answer, or the refusal, where the unit that the input's path names has this letter. Only a
--- claim looks at it.
+-- The answer or the refusal, given the letter of the unit that the input's path names. Only a claim
+-- depends on the letter.
 abbrev pub answer : State → Letter → Input → Result Answer Refusal
 answer s letter (inputs.Claim path host above) =
     at_unit (stranger s path) (claims s letter host above) (unit_in s path)
@@ -232,7 +231,7 @@ answer s letter inputs.Nudge = nudges s s.claim
 answer s letter (inputs.Ask path) = at_unit (stranger s path) (asks s) (unit_in s path)
 answer s letter (inputs.Message m) = heard s m
 
--- the unit of which an input asks the letter
+-- the unit whose letter an input depends on
 abbrev pub unit_claimed : State → Input → Option ℕ
 unit_claimed s (inputs.Claim path host above) = unit_in s path
 unit_claimed s (inputs.Built path given) = None
@@ -241,44 +240,44 @@ unit_claimed s inputs.Nudge = None
 unit_claimed s (inputs.Ask path) = None
 unit_claimed s (inputs.Message m) = None
 
--- the letter of the unit, where there is one
+-- This is the letter of the unit, if there is a unit.
 abbrev pub IsLetterOf : State → Option ℕ → Letter → Type 0
 IsLetterOf s None letter = Unit {0}
 IsLetterOf s (Some u) letter = HasLetter s u letter
 
--- The member answers the input with this, or refuses it so.
+-- The member answers the input with this answer or refusal.
 pub record Answers (s : State) (input : Input) (a : Result Answer Refusal) : Type 0 where
   pub letter : Letter
   pub shown : IsLetterOf s (unit_claimed s input) letter
   pub right : a ≡ answer s letter input
 
--- A call gave the answer or the refusal that is right, unless memory ran out.
+-- A call returned the right answer or refusal, or ran out of memory.
 pub record HasAnswered (s : State) (input : Input) (result : Result Answer Refusal) : Type 0 where
   pub right : Result Answer Refusal
   pub answers : Answers s input right
   pub given : IsRightUnless refusals.Memory result right
 
--- what an answer tells: what is noted, what is sent, and what is to be built
+-- the output of a step: what is noted, what is sent, and what is to be built
 abbrev pub Told : Type 0
 Told = Option (Note Value) × List Send × Option Task
 
--- what this answer tells
+-- the output of this answer
 abbrev pub told_by : Answer → Told
 told_by a = (a.note, a.sends, a.job)
 
--- the same of an answer that may be a refusal
+-- the output of an answer, or its refusal
 abbrev pub told_right : Result Answer Refusal → Result Told Refusal
 told_right (Ok a) = Ok (told_by a)
 told_right (Err e) = Err e
 
--- the member once a call that may have taken the step returned this
+-- the member after a call that may have taken the step returned this result
 abbrev pub taken : State → Result Answer Refusal → Result Told Refusal → State
 taken s (Ok a) (Ok t) = after s a
 taken s (Ok a) (Err e) = s
 taken s (Err f) t = s
 
--- What a call that prepares a step and takes it has done: it told what is right and took that step,
--- or it refused, and the member stayed as it was.
+-- A call that prepares a step and takes it either returned the right output and took that step, or
+-- refused it and left the member unchanged.
 pub record HasHandled (old new : State) (input : Input) (result : Result Told Refusal) : Type 0
   where
     pub right : Result Answer Refusal
@@ -286,7 +285,7 @@ pub record HasHandled (old new : State) (input : Input) (result : Result Told Re
     pub given : IsRightUnless refusals.Memory result (told_right right)
     pub state : new ≡ taken old right result
 
--- what is known of the unit, if it is one; of none nothing is known
+-- what is known of the unit, or nothing if there is no unit
 abbrev pub facts_of_unit : State → Option ℕ → Facts Value
 facts_of_unit s None = no_facts
 facts_of_unit s (Some u) = facts_at s u

@@ -1,2 +1,2 @@
--- What only bodies and proofs need.
+-- Definitions that only function bodies and proofs need.
 pub mod First

@@ -1,4 +1,4 @@
-//! What is handed in, by path.
+//! The files that are handed in, indexed by path.
 ghost use Rattle.std.specs.Prelude.{◌≡◌, ◌<◌, IfOk, List, MatchOption, OnOk, Some, false, if◌then◌else◌, length, map, true};
 ghost use Rattle.std.specs.List.{slice_index_or};
 ghost use Rattle.std.specs.Str.{bytes_eq};
@@ -11,13 +11,12 @@ ghost use Rattle.protocol.specs.inside.First.{IsFirst};
 use crate::packages::Packages;
 use faults::Memory;
 use indexmap::IndexMap;
-use package_record::Files;
-use pkgpath::PkgPath;
+use package_record::{Files, PkgPath};
 use std::alloc::Global;
 use std::marker::Model;
 
-/// What is handed in, by path: the files of a path are those of the first entry that has it, and
-/// are found without a look at the others. Contracts see what is handed in.
+/// The files that are handed in, indexed by path: the files of a path are those of its first entry.
+/// A lookup does not scan the entries. Contracts see the list of entries.
 #[derive(Drop)]
 pub struct ByPath<'b> {
     builds: &'b Packages,
@@ -42,7 +41,7 @@ impl<'b> Model for ByPath<'b> {
 }
 
 impl<'b> ByPath<'b> {
-    /// What is handed in, by path. It fails only for want of memory.
+    /// Builds the index. Returns `Memory` if out of memory.
     pub fn new(alloc: Global, builds: &'b Packages) -> Result<ByPath<'b>, Memory>
         ensures { IfOk result (λ given. given ≡ builds.entry.now) }
     {
@@ -50,7 +49,7 @@ impl<'b> ByPath<'b> {
         Ok(ByPath { builds, numbers })
     }
 
-    /// The files that are handed in for the path, if some are.
+    /// The files handed in for the path, if there are any.
     pub fn files(&self, path: &PkgPath) -> Option<&'b Files>
         ensures { MatchOption result
             (is_among (map (λ g. g.0) self.now) path.now ≡ false)
@@ -61,7 +60,7 @@ impl<'b> ByPath<'b> {
     }
 }
 
-/// The files that are handed in for the path, if some are, by these numbers.
+/// The files handed in for the path, if there are any, by these numbers.
 fn files_by_number<'b>(
     builds: &'b Packages,
     numbers: &IndexMap<PkgPath, usize>,
@@ -80,7 +79,7 @@ fn files_by_number<'b>(
     }
 }
 
-/// The files of the entry of this number.
+/// The files of the entry with this number.
 fn files_at<'b>(builds: &'b Packages, number: usize) -> &'b Files
     requires { number < length builds.now }
     ensures { (d : Text × List NamedFile)
@@ -103,7 +102,7 @@ fn numbers_of(alloc: Global, builds: &Packages) -> Result<IndexMap<PkgPath, usiz
     Ok(numbers)
 }
 
-/// Keeps the number under the path, in place of the one that it had.
+/// Stores the number under the path, replacing an earlier one.
 fn keep(numbers: &mut IndexMap<PkgPath, usize>, path: &PkgPath, number: usize) -> Result<(), Memory>
     ensures { OnOk result ((q : Text) → get bytes_eq numbers.new q
         ≡ (if bytes_eq path.now q then Some number else get bytes_eq numbers.old q)) }

@@ -4,18 +4,18 @@ ghost use Rattle.std.specs.Prelude.{◌≡◌, IfOk};
 use crate::Packages;
 use ballots::Message;
 use faults::Memory;
-use pkgpath::PkgPath;
+use package_record::PkgPath;
 
 /// What a member is asked. A path names a unit, by the unit's name or as one of its packages.
 #[derive(Drop)]
 pub enum Input {
-    /// Open a claim for the unit, for this host to build it, in a round above this one.
+    /// Open a claim for the unit, in a round above `above`, for this host to build it.
     Claim {
         path: PkgPath,
         host: u16,
         above: u64,
     },
-    /// The claim's host built the unit: these are the files of its packages.
+    /// The claim's host has built the unit: these are the files of its packages.
     Built {
         path: PkgPath,
         packages: Packages,
@@ -30,12 +30,12 @@ pub enum Input {
     Ask {
         path: PkgPath,
     },
-    /// A message came.
+    /// A message was received.
     Message(Message),
 }
 
 impl Input {
-    /// An equal input. It fails only for want of memory.
+    /// Copies the input. Returns `Memory` if out of memory.
     pub fn copy(&self) -> Result<Input, Memory>
         ensures { IfOk result (λ input. input ≡ self.now) }
     {

@@ -1,4 +1,4 @@
-//! What holds of members, over all that they are asked.
+//! Laws of members, for every input.
 ghost use Rattle.protocol.specs.Laws.{
   BuildsAreOfTheirUnit,
   BuildsStandOnWhatIsHeld,
@@ -16,27 +16,27 @@ ghost use Rattle.protocol.specs.Laws.{
   WaitingClaimsHaveJobs,
 };
 
-/// Each input has one answer, and it leaves a member that is one.
+/// Each input has one answer, and it leaves a valid member.
 pub fn members_answer()
     ensures one { OnlyOneAnswerIsRight }
     ensures member { MembersStayMembers }
 {}
 
-/// A member answers as the theory's member does for the unit, and what is said there goes out.
+/// A member answers as the theory's member does for the unit, and what is said there is sent.
 pub fn members_follow_the_theory()
     ensures inputs { InputsAreAnsweredAsInTheTheory }
     ensures messages { MessagesAreAnsweredAsInTheTheory }
 {}
 
-/// Notes restore what a member knows, and what it holds it holds for good.
+/// Notes restore what a member knows, and a member holds for good what it holds.
 pub fn notes_restore_members()
     ensures restored { NotesRestoreFacts }
     ensures held { HeldRecordsStay }
 {}
 
-/// A job is that of an open claim, given first when a promise of it comes. It stands on what is
-/// held, on all that its build needs, and stays while the claim waits for a build. What is built so
-/// is a build of the claim's unit.
+/// A job belongs to an open claim, and is given first when a promise of that claim is received. It
+/// depends only on what is held, has all that its build needs, and stays the same while the claim
+/// waits for a build. What is built from it is a build of the claim's unit.
 pub fn jobs_stay()
     ensures given { JobsAreOfOpenClaims }
     ensures stay { JobsStay }

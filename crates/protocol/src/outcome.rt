@@ -1,4 +1,4 @@
-//! What a step asks for.
+//! The outcome of a step.
 ghost use Rattle.std.specs.Prelude.{◌≡◌, IfOk};
 ghost use Rattle.std.specs.Option.{option_copied};
 
@@ -7,8 +7,8 @@ use ballots::Note;
 use claims::Job;
 use faults::Memory;
 
-/// What a step asks for: its note is to be on the log first, then its messages go out, and the job
-/// is handed to its host.
+/// The outcome of a step. Its note must be on the log before its messages are sent and its job is
+/// given to the host.
 #[derive(Drop)]
 pub struct Outcome {
     pub note: Option<Note>,
@@ -18,7 +18,7 @@ pub struct Outcome {
 }
 
 impl Outcome {
-    /// An equal outcome. It fails only for want of memory.
+    /// Copies the outcome. Returns `Memory` if out of memory.
     pub fn copy(&self) -> Result<Outcome, Memory>
         ensures { IfOk result (λ outcome. outcome ≡ self.now) }
     {
@@ -29,7 +29,7 @@ impl Outcome {
     }
 }
 
-/// An equal note, if there is one.
+/// Copies the note, if there is one.
 fn copy_of_note(note: Option<&Note>) -> Result<Option<Note>, Memory>
     ensures { IfOk result (λ copy. copy ≡ option_copied note.entry) }
 {
@@ -42,7 +42,7 @@ fn copy_of_note(note: Option<&Note>) -> Result<Option<Note>, Memory>
     }
 }
 
-/// An equal job, if there is one.
+/// Copies the job, if there is one.
 fn copy_of_job(job: Option<&Job>) -> Result<Option<Job>, Memory>
     ensures { IfOk result (λ copy. copy ≡ option_copied job.entry) }
 {

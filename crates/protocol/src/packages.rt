@@ -4,8 +4,7 @@ ghost use Rattle.faults.specs.Bytes.{is_among};
 ghost use Rattle.protocol.specs.Jobs.{files_for};
 
 use faults::Memory;
-use package_record::Files;
-use pkgpath::PkgPath;
+use package_record::{Files, PkgPath};
 use std::alloc::Global;
 use std::marker::Model;
 
@@ -24,29 +23,29 @@ impl Model for Packages {
 }
 
 impl Packages {
-    /// The files of these packages.
+    /// Wraps these packages and files.
     pub fn new(items: Vec<(PkgPath, Files)>) -> Packages
         ensures { result ≡ items.items }
     {
         Packages { items }
     }
 
-    /// The packages with their files, in the order in which they were handed in.
+    /// The packages with their files, in the order handed in.
     pub fn into_vec(self) -> Vec<(PkgPath, Files)>
         ensures { result.items ≡ self }
     {
         self.items
     }
 
-    /// The packages with their files, in the order in which they were handed in.
+    /// The packages with their files, in the order handed in.
     pub fn as_slice(&self) -> &[(PkgPath, Files)]
         ensures { result.now ≡ self.now }
     {
         self.items.as_slice()
     }
 
-    /// The files of the path, if some are handed in: those of the first entry that has it. All
-    /// entries before it are looked at; who looks up more than one path takes `ByPath`.
+    /// The files of the first entry with the path, if there is one. This scans the entries up to
+    /// that one; to look up several paths, use `ByPath`.
     pub fn files_of(&self, path: &PkgPath) -> Option<&Files>
         ensures { MatchOption result
             (is_among (map (λ g. g.0) self.now) path.now ≡ false)
@@ -61,7 +60,7 @@ impl Packages {
         None
     }
 
-    /// Equal packages. It fails only for want of memory.
+    /// Copies the packages. Returns `Memory` if out of memory.
     pub fn copy(&self) -> Result<Packages, Memory>
         ensures { IfOk result (λ packages. packages ≡ self.now) }
     {
@@ -75,7 +74,7 @@ impl Packages {
     }
 }
 
-/// An equal path with equal files.
+/// Copies the path and its files.
 fn copy_of(files: &(PkgPath, Files)) -> Result<(PkgPath, Files), Memory>
     ensures { IfOk result (λ copy. copy ≡ files.now) }
 {

@@ -7,7 +7,7 @@ use faults::{Fault, WantOfMemory};
 use package_record::RecordFault;
 use thiserror::Error;
 
-/// Why an input is refused. Of several reasons the first that is tested is the one.
+/// Why an input is refused: the first test that fails decides.
 #[derive(Clone, Copy, Debug, PartialEq, Eq, Error)]
 pub enum Refusal {
     #[error("out of memory")]
@@ -18,19 +18,19 @@ pub enum Refusal {
     Ignored,
     #[error("the build waits for dependencies")]
     Waiting,
-    #[error("the build is held")]
+    #[error("the packages are already held")]
     Held,
-    #[error("no claim is open for this")]
+    #[error("there is no open claim for this")]
     NoClaim,
     #[error("no round is left")]
     RoundsSpent,
-    #[error("the files make no build: {0}")]
+    #[error("the files don't make a build: {0}")]
     BadFiles(RecordFault),
-    #[error("the message is of another tree")]
+    #[error("the message is about another tree")]
     OtherTree,
-    #[error("the message is not of a member")]
+    #[error("the message is not from a member")]
     NotAMember,
-    #[error("the files are of other packages")]
+    #[error("the files are for other packages")]
     OtherPackages,
 }
 
@@ -69,7 +69,7 @@ impl Fault for Refusal {
 }
 
 impl Refusal {
-    /// The number of the fault that is behind it: why the files make no build.
+    /// The number of the underlying fault: why the files make no build.
     pub fn cause(&self) -> Option<u32>
         ensures { result ≡ cause_of self.now }
     {

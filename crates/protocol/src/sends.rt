@@ -1,4 +1,4 @@
-//! What goes out, and to whom.
+//! Messages and their receivers.
 ghost use Rattle.std.specs.Prelude.{◌≡◌, ◌↔◌, [], IfOk, None, Some};
 ghost use Rattle.std.specs.Option.{option_copied};
 ghost use Rattle.protocol.specs.Sends.{receivers_of, sent_to};
@@ -8,7 +8,7 @@ use ballots::Message;
 use faults::Memory;
 use std::marker::Model;
 
-/// A message, and the member that gets it.
+/// A message and the member that gets it.
 #[derive(Drop)]
 pub struct Send {
     /// The number of the receiver, which may be the sender itself.
@@ -17,7 +17,7 @@ pub struct Send {
 }
 
 impl Send {
-    /// An equal message to the same member. It fails only for want of memory.
+    /// Copies the message and its receiver. Returns `Memory` if out of memory.
     pub fn copy(&self) -> Result<Send, Memory>
         ensures { IfOk result (λ send. send ≡ self.now) }
     {
@@ -29,8 +29,8 @@ impl Send {
     }
 }
 
-/// What a step sends: one message, which all its receivers share, or nothing. A message that nobody
-/// gets is not sent. Contracts see the list of what is sent, in order of receiver.
+/// What a step sends: one message, which all its receivers share, or nothing. A message without
+/// receivers is not sent. Contracts see the list of what is sent, in order of receiver.
 #[derive(Drop)]
 pub struct Sends {
     message: Option<Message>,
@@ -50,7 +50,7 @@ impl Model for Sends {
 }
 
 impl Sends {
-    /// Nothing is sent.
+    /// Sends nothing.
     pub fn nothing() -> Sends
         ensures { result ≡ [] }
     {
@@ -60,7 +60,7 @@ impl Sends {
         }
     }
 
-    /// The message goes to these members. With no members nothing is sent.
+    /// Sends the message to these members, or nothing if there are none.
     pub fn new(message: Message, receivers: ArrayVec<u8, 9>) -> Sends
         ensures { result ≡ sent_to (Some message) receivers.items }
     {
@@ -88,7 +88,7 @@ impl Sends {
         self.message.as_ref()
     }
 
-    /// The same message to the same members. It fails only for want of memory.
+    /// Copies what is sent. Returns `Memory` if out of memory.
     pub fn copy(&self) -> Result<Sends, Memory>
         ensures { IfOk result (λ sends. sends ≡ self.now) }
     {

@@ -1,4 +1,4 @@
--- What the program prints, and the status with which it then ends.
+-- What the program prints, and its exit status.
 use Rattle.std.specs.Prelude.{◌≡◌, ℕ, List, Option}
 use Rattle.std.specs.Io.KnownBytes.{Appends}
 use Rattle.clap.specs.Words.{Text as Word}
@@ -7,12 +7,12 @@ use Rattle.dpbr_run.specs.Run.{IsRun}
 use Rattle.dpbr_status.specs.Status.{IsStatus}
 use Rattle.dpbr_wayon.specs.WayOn.{IsWayOn}
 use Rattle.faults.specs.Bytes.{Text}
-use Rattle.program.specs.Printing.{AppendsBeginning}
-use Rattle.words.specs.Calls.{AreTaken, IsCallOf, matched}
-use Rattle.words.specs.declared.Call.{Call}
-use Rattle.words.specs.declared.Call.TheVariants.{Audit, Run, Status, Wayon}
+use Rattle.program_io.specs.Printing.{AppendsBeginning}
+use Rattle.dpbr_cli.specs.Calls.{AreTaken, IsCallOf, matched}
+use Rattle.dpbr_cli.specs.declared.Call.{Call}
+use Rattle.dpbr_cli.specs.declared.Call.TheVariants.{Audit, Run, Status, Wayon}
 
--- what a call prints of the texts that reads of its names gave, and its status
+-- what a call prints if reads of its names gave some texts, and its status
 abbrev pub IsOutputOf : (Text → Text → Type 0) → Call → ℕ → Text → Type 0
 IsOutputOf Gave (Status listing held is_single) status text =
     (status ≡ 0) × IsStatus Gave listing.now held.now is_single text
@@ -24,15 +24,14 @@ IsOutputOf Gave (Wayon listing trace node path host builds is_single) status tex
     (status ≡ 0)
     × IsWayOn Gave listing.now trace.now builds.now is_single node path.now host text
 
--- what was written since, where it is known, is one such text, and the status is the one that goes
--- with it
+-- what was written since, if that is known, is such a text, and this is its status
 pub record HasPrinted (Gave : Text → Text → Type 0) (call : Call) (status : ℕ)
     (before after : Option (List ℕ)) : Type 0 where
   pub text : Text
   pub is_output : IsOutputOf Gave call status text
   pub appended : Appends before after text
 
--- clap takes the words, and what the call prints that it matches was written
+-- clap accepts the arguments, and what the matched call prints was written
 pub record HasCarriedOut (Gave : Text → Text → Type 0) (words : List Word) (status : ℕ)
     (before after : Option (List ℕ)) : Type 0 where
   pub taken : AreTaken words
@@ -40,7 +39,7 @@ pub record HasCarriedOut (Gave : Text → Text → Type 0) (words : List Word) (
   pub is_call : IsCallOf (matched words) call
   pub printed : HasPrinted Gave call status before after
 
--- what was written since, where it is known, is a beginning of one text that the call prints
+-- what was written since, if that is known, is the beginning of a text that the call prints
 pub record HasBegun (Gave : Text → Text → Type 0) (call : Call)
     (before after : Option (List ℕ)) : Type 0 where
   pub status : ℕ

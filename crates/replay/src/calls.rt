@@ -1,27 +1,28 @@
-//! The calls of `dpbr`. A program ends once it has made one, so a `status` and an `audit` leave
-//! what is large by then to the system.
+//! The calls of `dpbr`. The program ends after one call, so `status` and `audit` don't free what is
+//! large then; the system does.
 ghost use Rattle.std.specs.Prelude.{◌≡◌, ◌≤◌, ◌⊎◌, IfErr, IfOk, map, string_bytes};
 ghost use Rattle.std.specs.Io.KnownBytes.{Keeps};
 ghost use Rattle.replay.specs.Printed.{HasCarriedOut, HasPrinted, IsOutputOf};
 ghost use Rattle.replay.specs.Stopped.{CannotCarryOut, HasFailed, HasStopped, RefusesCall};
-ghost use Rattle.words.specs.Calls.{AreTaken};
+ghost use Rattle.dpbr_cli.specs.Calls.{AreTaken};
 
 use dpbr_audit::audit_of_files;
+use dpbr_cli::{Call, dpbr_words};
 use dpbr_run::run_of_files;
 use dpbr_status::status_of_files;
 use dpbr_wayon::{Target, wayon_of_files};
-use program::{Answer, NamedTexts, Refusal, Stop, print};
+use program_io::{Answer, NamedTexts, Refusal, Stop, print};
 use std::alloc::Global;
 use std::io::Write;
-use words::{Call, dpbr_words};
 
-/// Carries out the call that the words make, and gives the status with which the program ends: 0; 3
-/// after an audit that answers no; 1 after a fault, of which it writes one line to `err`, `dpbr:
-/// fault N` or `dpbr: fault N at K`, and nothing else; 2 where the words make no call, or ask for
-/// help, after clap's text on `err`.
+/// Carries out the call that the arguments make, and returns the exit status:
+/// - 0;
+/// - 3 after an audit whose answer is no;
+/// - 1 after a fault, with just one line on `err`, `dpbr: fault N` or `dpbr: fault N at K`;
+/// - 2 if the arguments make no call or ask for help, after clap's text on `err`.
 ///
-/// The first word is the program's name. The whole output is made before any of it is written to
-/// `out`; output that can't be written is fault 2.
+/// The first argument is the program's name. The whole output is made before any of it is written
+/// to `out`. If it can't be written, that is fault 2.
 pub fn dpbr_main<T: NamedTexts, O: Write, E: Write>(
     texts: &T,
     alloc: Global,
@@ -51,16 +52,16 @@ pub fn dpbr_main<T: NamedTexts, O: Write, E: Write>(
     }
 }
 
-/// Carries out the call that the words make, the first of which is the program's name, and gives
-/// the status with which the program then ends: 0, or 3 after an audit that answers no.
+/// Carries out the call that the arguments make, and returns the exit status: 0, or 3 after an
+/// audit whose answer is no. The first argument is the program's name.
 ///
-/// The files are read in the order of the words, each before the next is opened, and all that is
-/// printed is made before it is written.
+/// The files are read in the order of the arguments, each before the next is opened. All output is
+/// made before it is written.
 ///
 /// # Errors
 ///
-/// `WrongWords`, where clap takes the words for no call; `Refused`, where a file can't be read, its
-/// text has a fault, or memory was refused; `Unwritten`, where a write to `out` failed.
+/// `WrongWords` if clap finds no call in the arguments; `Refused` if a file can't be read, its text
+/// has a fault, or memory ran out; `Unwritten` if a write to `out` failed.
 pub fn dpbr_call<T: NamedTexts, O: Write>(
     texts: &T,
     alloc: Global,
@@ -77,7 +78,7 @@ pub fn dpbr_call<T: NamedTexts, O: Write>(
     carry_out(texts, alloc, &call, out)
 }
 
-/// Prints what the call asks for, and gives the status that goes with it.
+/// Prints what the call asks for, and returns its status.
 fn carry_out<T: NamedTexts, O: Write>(
     texts: &T,
     alloc: Global,

@@ -1,4 +1,4 @@
--- Files of which a log is to be made, and those that are as long as a log without notes.
+-- Files that would be made logs, and those that are as long as a log without notes.
 use Rattle.std.proofs.Common.{◌≡◌, ◌∙◌, inl, inr, ℕ, ◌+◌, ◌≤◌, true, false, List, [], ◌∷◌, ◌++◌, Some, ap, arith, drop, length, length-append, min, refl, sym, take}
 use Rattle.std.specs.Prelude.{if◌then◌else◌, slice_get}
 use Rattle.std.proofs.lemmas.List.{take_min}
@@ -29,7 +29,7 @@ header_length i =
       length-append (magic i) i.tree,
     )
 
--- ---- what the first bytes tell
+-- ---- what the first bytes decide
 
 pub front_of : (file : List ℕ) (gate : ℕ) (behind : List ℕ) → gate ∷ behind ≡ take 9 file
     → (slice_get file 0 ≡ Some gate) × (take 8 (drop 1 file) ≡ behind)
@@ -59,7 +59,7 @@ fresh_has_no_notes i file notes found has =
     )
     )
 
--- what is read of a file's first bytes
+-- the first bytes that are read of a file
 pub front_read : (file buf : List ℕ) (count : ℕ) → ReadsAt file 0 count buf → length buf ≡ 9
     → take count buf ≡ take 9 file
 front_read file buf count reads long =

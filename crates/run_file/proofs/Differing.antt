@@ -1,4 +1,4 @@
--- Where two texts part.
+-- The first difference of two texts.
 use Rattle.std.proofs.Common.{◌≡◌, ◌≢◌, ◌∙◌, ℕ, ◌+◌, ◌<◌, ◌≤◌, ◌==◌, [], ◌∷◌, ◌++◌, None, Some, ap, count_by, drop, get_or, length, refl, sym, take}
 use Rattle.std.specs.Prelude.{slice_get}
 use Rattle.std.proofs.Math.Seq.{drop-cons}
@@ -6,7 +6,7 @@ use Rattle.std.proofs.lemmas.List.{append-nil, append_cancel_left, drop_all, nil
 use Rattle.faults.specs.Bytes.{Text, line_feed}
 use Rattle.run_file.specs.Difference.{PartIn}
 
--- so many bytes are the same in both texts, and this is the line that they lead to
+-- the first i bytes of both texts are the same, and they end in this line
 pub record AreSameSoFar (text other : Text) (i line : ℕ) (rest : Text) : Type 0 where
   pub parts : other ≡ take i text ++ rest
   pub counted : line ≡ count_by (λ byte. byte == line_feed) (take i text) + 1
@@ -32,7 +32,7 @@ other_ends text other i line rest same within none =
     ∙ ap (λ l. slice_get l 0) (nil_from_length rest none) in
     absurd (let no : Some (get_or text i 0) ≡ None = some in cc))
 
--- the other text goes on with another byte
+-- the other text continues with another byte
 pub other_byte : (text other : Text) (i line : ℕ) (rest : Text) (first : ℕ) (behind : Text)
     → AreSameSoFar text other i line rest → i < length text → rest ≡ first ∷ behind
     → (first ≡ get_or text i 0 → ⊥) → PartIn text other line
@@ -42,7 +42,7 @@ other_byte text other i line rest first behind same within is differs =
     ∙ ap (λ l. slice_get l 0) is in
     differs (let e : first ≡ get_or text i 0 = cc in e))
 
--- the other text goes on where this one ends
+-- the other text continues where this one ends
 pub other_goes_on : (text other : Text) (i line : ℕ) (rest : Text) → AreSameSoFar text other i line rest
     → length text ≤ i → ¬ (length rest ≡ 0) → PartIn text other line
 other_goes_on text other i line [] same past some = absurd (some refl)
@@ -60,7 +60,7 @@ both_end text other i line rest same past none =
 
 -- ---- there is one such line
 
--- what both begin with, up to where they part
+-- what both begin with, up to the difference, is unique
 front_once : (p q r s t u : Text) → p ++ r ≡ q ++ t → p ++ s ≡ q ++ u → slice_get r 0 ≢ slice_get s 0
     → slice_get t 0 ≢ slice_get u 0 → p ≡ q
 front_once [] [] r s t u one two part_p part_q = refl
@@ -83,10 +83,10 @@ pub same_never_part : (text other : Text) (n : ℕ) → text ≡ other → PartI
 same_never_part text other n same p =
     p.part (ap (λ l. slice_get l 0) (append_cancel_left p.both p.rest p.other_rest (sym p.parts ∙ same ∙ p.other_parts)))
 
--- the answer
+-- the answer is this line
 pub some_line : (text other : Text) (n : ℕ) → PartIn text other n → (m : ℕ) → PartIn text other m → Some n ≡ Some m
 some_line text other n p m q = ap Some (one_line text other n m p q)
 
--- the answer that they are the same
+-- the answer is that they are the same
 pub no_line : (text other : Text) → text ≡ other → (m : ℕ) → PartIn text other m → None ≡ Some m
 no_line text other same m q = absurd (same_never_part text other m same q)

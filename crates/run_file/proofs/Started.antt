@@ -8,7 +8,7 @@ use Rattle.run_file.specs.declared.fault.StartFault.{StartFault}
 use Rattle.run_file.specs.declared.fault.StartFault.TheVariants.{Device, Files, Memory, Run}
 use Rattle.stable_record.specs.declared.identity.Identity.{Identity}
 
--- where no plan is made
+-- why no plan is made is why the node doesn't start
 pub refused_start : (i : Identity) (key : Option Text) (is_continued : Bool) (wanted : Text) (has_key : Bool)
     → wanted ≡ run_text i key → has_key ≡ is_some key → (f : StartFault)
     → RefusesPlan wanted has_key is_continued f → RefusesStart i key is_continued f

@@ -1,4 +1,4 @@
--- What the text of a run file tells apart.
+-- The text of a run file determines its parts.
 use Rattle.std.proofs.Common.{◌≡◌, ◌∙◌, ℕ, ◌<◌, List, [], ◌∷◌, ◌++◌, Option, None, Some, ap, append_assoc, arith, codes, drop, flat_map, get_or, length, length-append, refl, suc, sym, take}
 use Rattle.std.specs.Fmt.{decimal}
 use Rattle.std.specs.Str.Parse.{AllDigits}
@@ -13,9 +13,9 @@ use Rattle.run_file.specs.RunFile.{AreBytes, AreSameRun, IsOwner, IsShown, betwe
 use Rattle.stable_record.specs.History.{IsBytes}
 use Rattle.stable_record.specs.declared.identity.Identity.{Identity}
 
--- ---- digits, up to where none stands
+-- ---- numerals, up to their end
 
--- the text goes on with what is no digit
+-- the text continues with a byte that is no digit
 abbrev EndsDigits : Text → Type 0
 EndsDigits text = get_or text 0 48 < 48
 
@@ -38,7 +38,7 @@ digits_end (c ∷ cs) (d ∷ ds) s t dx dy ends_s ends_t is =
 are_digits : (n : ℕ) → n < 256 → AllDigits 10 (decimal n)
 are_digits n small = (decimal_is_IsNumeral n (omega arith)).0.1
 
--- numbers in front of what is no digit
+-- numbers before such texts
 decimals_end : (m n : ℕ) (s t : Text) → m < 256 → n < 256 → EndsDigits s → EndsDigits t
     → decimal m ++ s ≡ decimal n ++ t → (m ≡ n) × (s ≡ t)
 decimals_end m n s t small_m small_n ends_s ends_t is =
@@ -97,7 +97,7 @@ encode_injective xs ys bytes_x bytes_y is =
     let same : decode_of (encode_lower xs) ≡ decode_of (encode_lower ys) = ap decode_of is in
     cc
 
--- as many bytes in front
+-- prefixes of the same length
 fronts : (xs ys s t : Text) → length xs ≡ length ys → xs ++ s ≡ ys ++ t → (xs ≡ ys) × (s ≡ t)
 fronts xs ys s t lengths is =
     let front : xs ≡ ys =
@@ -127,7 +127,7 @@ keys_apart (Some key) (Some other) shown shown_other is =
 
 -- ---- the whole text
 
--- the text without its first lines' bounds
+-- the text from its parts
 abbrev spelled : Text → Text → Text → Text → Text
 spelled tree weights me key =
     codes "dpbn run 1" ++ (line_feed ∷ (codes "listing " ++ (tree ++ (line_feed ∷ (codes "weights "
@@ -160,7 +160,7 @@ pub run_text-spelled : (i : Identity) (key : Option Text)
     → run_text i key ≡ spelled (encode_lower i.tree) (between_commas i.weights.items) (decimal i.me) (shown_key key)
 run_text-spelled i key = lines_in (encode_lower i.tree) (between_commas i.weights.items) (decimal i.me) (shown_key key)
 
--- its parts, one behind the other
+-- this is the run file's text
 pub told : (i : Identity) (key : Option Text) (tree weights shown : Text) → tree ≡ encode_lower i.tree
     → weights ≡ between_commas i.weights.items → shown ≡ shown_key key
     → spelled tree weights (decimal i.me) shown ≡ run_text i key

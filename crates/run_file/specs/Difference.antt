@@ -1,9 +1,9 @@
--- Where two texts part.
+-- The first difference of two texts.
 use Rattle.std.specs.Prelude.{◌≡◌, ◌≢◌, ◌+◌, ◌++◌, ◌==◌, ℕ, count_by, slice_get}
 use Rattle.faults.specs.Bytes.{Text, line_feed}
 
--- The texts part in this line, counted from 1: in it what both begin with ends, and then they go on
--- with different bytes, or just one of them goes on.
+-- The texts first differ in this line, counted from 1. Both begin with `both`, which ends in this
+-- line, and then they continue with different bytes, or only one of them continues.
 pub record PartIn (text other : Text) (line : ℕ) : Type 0 where
   pub both : Text
   pub rest : Text

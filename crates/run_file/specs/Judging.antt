@@ -9,21 +9,22 @@ use Rattle.run_file.specs.declared.judging.LogFound.TheVariants.{Absent, Blank, 
 use Rattle.run_file.specs.declared.judging.Plan.{Plan}
 use Rattle.run_file.specs.declared.judging.Plan.TheVariants.{Go, Make, Write}
 
--- Beside a run file of this run a log stands that was made: the file came later than it.
+-- If the run file is of this run, the log must exist, and opening it must not make a new log: the
+-- run file is written only after the log was made.
 abbrev pub with_same_run : LogFound → Result Plan RunFault
 with_same_run Absent = Err Lost
 with_same_run Blank = Err Lost
 with_same_run Fresh = Ok Go
 with_same_run Noted = Ok Go
 
--- The run file is another run's, from this line on.
+-- If the run file is of another run, and first differs in this line.
 abbrev pub with_other_run : ℕ → LogFound → Result Plan RunFault
 with_other_run line Absent = Err Lost
 with_other_run line _ = Err (Differs line)
 
--- No run file stands: the log has no notes, or none stands, or it is one of a run without a key
--- that wrote none. A run with a key takes no notes of such a one; and one that is continued has a
--- log.
+-- If there is no run file: a missing log is created, unless the run is continued; an existing log
+-- is opened, unless it has notes and the run has a key. Notes without a run file are from a run
+-- without a key that wrote none.
 abbrev pub without_run : Bool → Bool → LogFound → Result Plan RunFault
 without_run has_key true Absent = Err NothingThere
 without_run has_key false Absent = Ok Make
@@ -32,7 +33,7 @@ without_run has_key is_continued Fresh = Ok Write
 without_run true is_continued Noted = Err (Differs 0)
 without_run false is_continued Noted = Ok Write
 
--- what is done where this run file was found, or none, and the text that is wanted
+-- what is done with this run file, or without one, if its text should be `wanted`
 abbrev pub IsJudged : Option Text → Text → LogFound → Bool → Bool → Result Plan RunFault → Type 0
 IsJudged None wanted log has_key is_continued result =
     result ≡ without_run has_key is_continued log

@@ -1,4 +1,4 @@
--- What a start on a log answers.
+-- The result of a start on a log.
 use Rattle.std.specs.Prelude.{◌≡◌, ⊤, Bool, Option, None, Some, Result, Ok, Err, is_some}
 use Rattle.faults.specs.Bytes.{Text}
 use Rattle.run_file.specs.Judging.{IsJudged}
@@ -11,19 +11,21 @@ use Rattle.run_file.specs.declared.judging.Plan.{Plan}
 use Rattle.run_file.specs.declared.judging.Plan.TheVariants.{Go, Make, Write}
 use Rattle.stable_record.specs.declared.identity.Identity.{Identity}
 
--- this is what is done with some log and run file, or none, where the text is to be this one
+-- this is what is done with some log and some run file, or without one, if its text should be
+-- `wanted`
 pub record IsJudgedOnSome (wanted : Text) (has_key is_continued : Bool)
     (answer : Result Plan RunFault) : Type 0 where
   pub run : Option Text
   pub log : LogFound
   pub judged : IsJudged run wanted log has_key is_continued answer
 
--- the same of this owner's run file
+-- this is what is done with this owner's run file
 abbrev pub IsJudgedFor : Identity → Option Text → Bool → Result Plan RunFault → Type 0
 IsJudgedFor i key is_continued answer =
     IsJudgedOnSome (run_text i key) (is_some key) is_continued answer
 
--- why no plan is made: a file can't be had, or memory; or the log is not to be opened
+-- why no plan is made: a file can't be read or written, memory ran out, or the log must not be
+-- opened
 abbrev pub RefusesPlan : Text → Bool → Bool → StartFault → Type 0
 RefusesPlan wanted has_key is_continued Memory = ⊤
 RefusesPlan wanted has_key is_continued Files = ⊤
@@ -31,21 +33,21 @@ RefusesPlan wanted has_key is_continued Device = ⊥
 RefusesPlan wanted has_key is_continued (Run f) =
     IsJudgedOnSome wanted has_key is_continued (Err f)
 
--- The text of the run file that is still to be written: none where the log is just opened.
+-- The text of the run file that must still be written: none if the log is only opened.
 abbrev pub IsUnwritten : Identity → Option Text → Plan → Option Text → Type 0
 IsUnwritten i key Go unwritten = unwritten ≡ None
 IsUnwritten i key Make unwritten = unwritten ≡ Some (run_text i key)
 IsUnwritten i key Write unwritten = unwritten ≡ Some (run_text i key)
 
--- what is still to be written by one of the things that a start may do
+-- this text must still be written, after one of the plans that a start may make
 pub record IsStarted (i : Identity) (key : Option Text) (is_continued : Bool)
     (unwritten : Option Text) : Type 0 where
   pub plan : Plan
   pub judged : IsJudgedFor i key is_continued (Ok plan)
   pub is_unwritten : IsUnwritten i key plan unwritten
 
--- why a node doesn't start: a file can't be had, or memory; or the log can't be read; or by what
--- was found it is not to be opened
+-- why a node doesn't start: a file can't be read or written, memory ran out, the device failed, or
+-- the log must not be opened
 abbrev pub RefusesStart : Identity → Option Text → Bool → StartFault → Type 0
 RefusesStart i key is_continued Memory = ⊤
 RefusesStart i key is_continued Files = ⊤

@@ -1,8 +1,8 @@
-//! Where two texts part.
+//! The first difference of two texts.
 ghost use Rattle.std.specs.Prelude.{◌≡◌, MatchOption, Some, ℕ};
 ghost use Rattle.run_file.specs.Difference.{PartIn};
 
-/// The line, counted from 1, in which the texts part, unless they are the same.
+/// The line, counted from 1, in which the texts first differ, or `None` if they are the same.
 pub fn first_difference(text: &[u8], other: &[u8]) -> Option<u64>
     ensures exact { MatchOption result (text.now ≡ other.now) (PartIn text.now other.now) }
     ensures one_line { (line : ℕ) → PartIn text.now other.now line → result ≡ Some line }

@@ -10,17 +10,17 @@ use std::io;
 use std::io::ErrorKind;
 use thiserror::Error;
 
-/// Why a node doesn't start on the log that it finds, or doesn't find.
+/// Why a node doesn't start on the log that it finds, or that is missing.
 #[derive(Clone, Copy, Debug, PartialEq, Eq, Error)]
 pub enum RunFault {
-    /// The run file is another run's, from this line on; or, at 0, no run file stands beside a log
-    /// with notes, and the run has a key.
-    #[error("the log is of another run, by line {0}")]
+    /// The run file is of another run, and first differs in this line. If the line is 0, the log
+    /// has notes but no run file, and the run has a key.
+    #[error("line {0} of the run file shows that the log belongs to another run")]
     Differs(u64),
-    /// The run file stands, and no log beside it that was made.
+    /// There is a run file, but its log is missing, or is empty and would be made anew.
     #[error("the member's log is lost")]
     Lost,
-    /// Neither a log nor a run file stands where a run is to be continued.
+    /// A run should be continued, but there is neither a log nor a run file.
     #[error("there is no run to continue")]
     NothingThere,
 }
@@ -57,7 +57,7 @@ pub enum StartFault {
     /// The device of the log failed.
     #[error("the device failed")]
     Device,
-    /// The log is not to be opened.
+    /// The log must not be opened.
     #[error("{0}")]
     Run(RunFault),
 }

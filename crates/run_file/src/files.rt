@@ -1,5 +1,5 @@
-//! The files of a member: its log, and the run file beside it. No contract says what a file holds,
-//! or what the system makes of a call.
+//! The files of a member: its log, and the run file next to it. No contract says what a file holds,
+//! or what the system does.
 ghost use Rattle.std.specs.Prelude.{◌≡◌, ◌++◌, IfErr, IfOk, codes, string_bytes};
 ghost use Rattle.std.specs.Fmt.{decimal};
 ghost use Rattle.run_file.specs.Refusals.{IsOfSystem};
@@ -10,14 +10,14 @@ use std::fs;
 use std::fs::{File, OpenOptions};
 use std::io::{ErrorKind, Read, Write};
 
-/// How much of a run file is read at most: more than any text of one has.
+/// The maximum number of bytes that are read of a run file: more than any run file has.
 const MOST: u64 = 1024;
 
-/// The bytes of the member's run file, or none, where no file has that name.
+/// Reads the member's run file. Returns `None` if it doesn't exist.
 ///
 /// # Errors
 ///
-/// What the system refused.
+/// The system's refusal.
 pub fn read_run(rt: &HostRuntime, folder: &str, me: u8) -> Result<Option<Vec<u8>>, StartFault>
     ensures { IfErr result IsOfSystem }
 {
@@ -34,13 +34,13 @@ pub fn read_run(rt: &HostRuntime, folder: &str, me: u8) -> Result<Option<Vec<u8>
     }
 }
 
-/// Writes the member's run file: into a new file, which is synced before it gets the name, and then
-/// the folder is. Whenever a crash comes, the name stands for the whole text or for what it stood
-/// for before.
+/// Writes the member's run file. The text goes to a new file, which is synced and then renamed;
+/// then the folder is synced. So after a crash at any moment, the name refers to the whole text or
+/// to what it referred to before.
 ///
 /// # Errors
 ///
-/// What the system refused.
+/// The system's refusal.
 pub fn write_run(rt: &HostRuntime, folder: &str, me: u8, text: &[u8]) -> Result<(), StartFault>
     ensures { IfErr result IsOfSystem }
 {
@@ -53,12 +53,12 @@ pub fn write_run(rt: &HostRuntime, folder: &str, me: u8, text: &[u8]) -> Result<
     sync_folder(rt, folder)
 }
 
-/// The file of the member's log, to be read and written, or none, where no file has that name. The
-/// folder is synced, so that a crash doesn't take the file away, whoever made it.
+/// Opens the member's log for reading and writing. Returns `None` if it doesn't exist. The folder
+/// is synced, so that a crash doesn't remove the file, whoever created it.
 ///
 /// # Errors
 ///
-/// What the system refused.
+/// The system's refusal.
 pub(crate) fn open_log(rt: &HostRuntime, folder: &str, me: u8) -> Result<Option<File>, StartFault>
     ensures { IfErr result IsOfSystem }
 {
@@ -72,11 +72,11 @@ pub(crate) fn open_log(rt: &HostRuntime, folder: &str, me: u8) -> Result<Option<
     Ok(file)
 }
 
-/// A file for the member's log, where no file has that name, and the folder is synced.
+/// Creates the member's log, which must not exist, and syncs the folder.
 ///
 /// # Errors
 ///
-/// What the system refused; also where a file has that name.
+/// The system's refusal, also if the file exists.
 pub(crate) fn make_log(rt: &HostRuntime, folder: &str, me: u8) -> Result<File, StartFault>
     ensures { IfErr result IsOfSystem }
 {
@@ -86,7 +86,7 @@ pub(crate) fn make_log(rt: &HostRuntime, folder: &str, me: u8) -> Result<File, S
     Ok(file)
 }
 
-/// The file at a path, or none, where no file has that name.
+/// Opens the file at a path. Returns `None` if it doesn't exist.
 fn opened(rt: &HostRuntime, options: &OpenOptions, path: &str) -> Result<Option<File>, StartFault>
     ensures { IfErr result IsOfSystem }
 {
@@ -97,7 +97,7 @@ fn opened(rt: &HostRuntime, options: &OpenOptions, path: &str) -> Result<Option<
     }
 }
 
-/// Brings the names that the folder has to the disk.
+/// Syncs the folder's entries.
 fn sync_folder(rt: &HostRuntime, folder: &str) -> Result<(), StartFault>
     ensures { IfErr result IsOfSystem }
 {
@@ -106,7 +106,7 @@ fn sync_folder(rt: &HostRuntime, folder: &str) -> Result<(), StartFault>
     Ok(())
 }
 
-/// Where a file of the member stands.
+/// The path of one of the member's files.
 fn path_of(alloc: Global, folder: &str, me: u8, ending: &str) -> Result<String, AllocError>
     ensures { IfOk result (λ path. string_bytes path
         ≡ folder.now ++ (codes "/node-" ++ (decimal me ++ (codes "." ++ ending.now)))) }

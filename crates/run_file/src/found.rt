@@ -1,4 +1,4 @@
-//! What a log's file is, before it is opened.
+//! The state of a log's file before it is opened.
 ghost use Rattle.std.specs.Prelude.{◌≡◌, ◌≤◌, ◌↔◌, IfOk, IsErrOf, IsTrue, List, length, take, ℕ};
 ghost use Rattle.run_file.specs.Found.{IsFound};
 ghost use Rattle.run_file.specs.inside.Blank.{IsBlankBehind};
@@ -12,17 +12,18 @@ ghost use Rattle.stable_record.specs.declared.identity.Identity.{Identity};
 use crate::judging::LogFound;
 use stable_record::{Disk, DiskFault, Identity};
 
-/// Where the gate, which is the first byte, is closed.
+/// The value of the gate, the first byte, if it is closed.
 const CLOSED: u8 = 0;
 
-/// Where it is open.
+/// The value of the gate if it is open.
 const OPEN: u8 = 1;
 
-/// How many bytes tell whether a log is to be made of a file: the gate and the magic.
+/// The number of bytes that decide whether opening a file would make a log of it: the gate and the
+/// magic.
 const FRONT: usize = 9;
 
-/// Whether opening the file would make a log of it. It reads the file's length and its first bytes,
-/// and touches nothing.
+/// Whether opening the file would make a log of it. Reads only the file's length and its first
+/// bytes, and changes nothing.
 pub fn is_blank<D: Disk>(disk: &mut D, identity: &Identity) -> Result<bool, DiskFault>
     ensures blank { D.is_kept disk.new → IfOk result
         (λ is. IsTrue is ↔ IsBlank identity.now (seen (D.history disk.old))) }
@@ -40,7 +41,7 @@ pub fn is_blank<D: Disk>(disk: &mut D, identity: &Identity) -> Result<bool, Disk
     }
 }
 
-/// What the file is found to be: `Blank`, `Fresh` or `Noted`. It touches nothing.
+/// The state of the file: `Blank`, `Fresh` or `Noted`. Changes nothing.
 pub fn found_in<D: Disk>(disk: &mut D, identity: &Identity) -> Result<LogFound, DiskFault>
     ensures found { D.is_kept disk.new → IfOk result
         (IsFound identity.now (seen (D.history disk.old))) }
@@ -57,8 +58,8 @@ pub fn found_in<D: Disk>(disk: &mut D, identity: &Identity) -> Result<LogFound, 
     Ok(found_by(len, &front[..count], identity))
 }
 
-/// The same of a file of this length that begins with these bytes, of which more than a gate and a
-/// magic aren't wanted.
+/// The state of a file with this length that begins with these bytes. Bytes after the gate and the
+/// magic aren't needed.
 fn found_by(len: u64, front: &[u8], identity: &Identity) -> LogFound
     ensures { (file : List ℕ) → len ≡ length file → front.now ≡ take FRONT file
         → IsFound identity.now file result }
@@ -74,8 +75,8 @@ fn found_by(len: u64, front: &[u8], identity: &Identity) -> LogFound
     }
 }
 
-/// Whether a log is to be made of such a file, where one without notes has so many bytes and this
-/// magic.
+/// Whether opening such a file would make a log of it, if a log without notes has `new_len` bytes
+/// and this magic.
 fn is_blank_by(len: u64, front: &[u8], new_len: u64, own_magic: &[u8]) -> bool
     ensures { (i : Identity) (file : List ℕ) → new_len ≡ shortest i → own_magic.now ≡ magic i
         → len ≡ length file → front.now ≡ take FRONT file → IsTrue result ↔ IsBlank i file }
@@ -89,7 +90,7 @@ fn is_blank_by(len: u64, front: &[u8], new_len: u64, own_magic: &[u8]) -> bool
     }
 }
 
-/// The same of a file of two bytes at least, by its gate and what stands behind it.
+/// Like `is_blank_by`, for a file of at least two bytes: its gate, and the bytes after it.
 fn is_blank_behind(len: u64, gate: u8, behind: &[u8], new_len: u64, own_magic: &[u8]) -> bool
     ensures { IsTrue result
         ↔ IsBlankBehind len gate behind.now new_len own_magic.now }
@@ -114,7 +115,7 @@ fn digest(identity: &Identity) -> &[u8]
     &identity.tree
 }
 
-/// The weights that stand in the owner's log: none where each is 1.
+/// The weights that are written in the owner's log: none if each is 1.
 fn written_weights(identity: &Identity) -> &[u8]
     ensures { result.now ≡ written_weights identity.now }
 {
@@ -122,7 +123,7 @@ fn written_weights(identity: &Identity) -> &[u8]
     if are_ones(weights) { &[] } else { weights }
 }
 
-/// The bytes by which the owner's log is known.
+/// The magic bytes of the owner's log.
 fn magic_of(identity: &Identity) -> &'static [u8]
     ensures magic { result.now ≡ magic identity.now }
     ensures len { length result.now ≡ 8 }
@@ -134,7 +135,7 @@ fn magic_of(identity: &Identity) -> &'static [u8]
     }
 }
 
-/// Whether all members weigh the same, which is 1.
+/// Whether each weight is 1.
 fn are_ones(weights: &[u8]) -> bool
     ensures { result ≡ are_ones weights.now }
 {

@@ -1,4 +1,4 @@
-//! What a start does with what it finds.
+//! What a start does with the files that it finds.
 ghost use Rattle.std.specs.Prelude.{Err, Ok, option_map};
 ghost use Rattle.run_file.specs.Judging.{IsJudged, with_other_run, with_same_run, without_run};
 ghost use Rattle.std.specs.Prelude.{◌≡◌};
@@ -6,38 +6,40 @@ ghost use Rattle.std.specs.Prelude.{◌≡◌};
 use crate::difference::first_difference;
 use crate::fault::RunFault;
 
-/// What a log's file is found to be.
+/// The state in which a log's file is found.
 #[derive(Clone, Copy, Debug, PartialEq, Eq)]
 pub enum LogFound {
-    /// There is none.
+    /// It doesn't exist.
     Absent,
-    /// One of which opening it makes a log.
+    /// Opening it would make a log of it.
     Blank,
-    /// As long as a log without notes.
+    /// It is as long as a log without notes.
     Fresh,
-    /// Longer, or no log.
+    /// It is longer, or not a log.
     Noted,
 }
 
 /// What a start does next.
 #[derive(Clone, Copy, Debug, PartialEq, Eq)]
 pub enum Plan {
-    /// Makes the log's file, which isn't there, and then goes on as with `Write`.
+    /// Create the log's file, which doesn't exist, and continue as with `Write`.
     Make,
-    /// Opens the log, and then writes the run file.
+    /// Open the log, and then write the run file.
     Write,
-    /// Opens the log.
+    /// Open the log.
     Go,
 }
 
-/// What a start does where this run file was found, or none, and this log, and the run file's text
-/// is to be `wanted`.
+/// What a start does with this run file, or without one, and this log, if the run file's text
+/// should be `wanted`.
 ///
 /// # Errors
 ///
-/// `Lost`, where a run file stands and no log; `Differs`, where the run file is another's; `Lost`,
-/// where the log beside it is blank; `NothingThere`, where the run is to be continued and neither
-/// stands; `Differs(0)`, where the run has a key and the log has notes without a run file.
+/// - `Lost` if there is a run file but no log, or if the run file is of this run and the log is
+///   blank.
+/// - `Differs` if there is a log, and the run file is of another run.
+/// - `NothingThere` if the run should be continued, and there is neither a run file nor a log.
+/// - `Differs(0)` if the run has a key, and the log has notes but no run file.
 pub fn judge(
     run: Option<&[u8]>,
     wanted: &[u8],
@@ -57,7 +59,7 @@ pub fn judge(
     }
 }
 
-/// Where a run file of this run stands.
+/// If the run file is of this run.
 fn with_same_run(log: LogFound) -> Result<Plan, RunFault>
     ensures { result ≡ with_same_run log }
 {
@@ -67,7 +69,7 @@ fn with_same_run(log: LogFound) -> Result<Plan, RunFault>
     }
 }
 
-/// Where the run file differs in this line first.
+/// If the run file first differs in this line.
 fn with_other_run(line: u64, log: LogFound) -> Result<Plan, RunFault>
     ensures { result ≡ with_other_run line log }
 {
@@ -77,7 +79,7 @@ fn with_other_run(line: u64, log: LogFound) -> Result<Plan, RunFault>
     }
 }
 
-/// Where no run file stands.
+/// If there is no run file.
 fn without_run(log: LogFound, has_key: bool, is_continued: bool) -> Result<Plan, RunFault>
     ensures { result ≡ without_run has_key is_continued log }
 {

@@ -1,14 +1,14 @@
-//! What is told apart.
+//! Laws of run files and logs.
 ghost use Rattle.run_file.specs.Found.{FreshHasNoNotes};
 ghost use Rattle.run_file.specs.RunFile.{TellsRunsApart};
 
-/// A text is that of one listing, one table of weights, one member and one key, as far as
-/// fingerprints tell keys apart.
+/// Law: a run file's text determines the listing, the weights and the member, and the key as far as
+/// its fingerprint does.
 pub fn runs_are_told_apart()
     ensures { TellsRunsApart }
 {}
 
-/// A file that is found to be as long as a log without notes has none.
+/// Law: a file that is found as long as a log without notes has none.
 pub fn fresh_logs_have_no_notes()
     ensures { FreshHasNoNotes }
 {}

@@ -1,4 +1,5 @@
-//! The file that tells of which run a member's log is, and what a start does with what it finds.
+//! The run file, which says what run a member's log belongs to, and what a start does with the
+//! files that it finds.
 #![tactic(auto)]
 
 mod difference;
@@ -8,8 +9,6 @@ mod found;
 mod judging;
 mod laws;
 mod start;
-#[cfg(test)]
-mod tests;
 mod text;
 
 pub use crate::difference::first_difference;

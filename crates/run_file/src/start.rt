@@ -10,25 +10,25 @@ use crate::text::run_text;
 use stable_record::{FileDisk, Identity};
 use std::fs::File;
 
-/// The log on which a node starts.
+/// The log that a node starts on.
 #[derive(Drop)]
 pub struct Start {
-    /// The log's file, which is locked as long as the disk is open.
+    /// The log's file. It is locked while the disk is open.
     pub disk: FileDisk,
-    /// The text of the run file, where it is to be written once the log is open.
+    /// The text of the run file, if it must be written once the log is open.
     pub unwritten: Option<String>,
 }
 
-/// What a node starts on, in this folder, which has to be there. Not a byte of a file is written: a
-/// log's file that isn't there is made, and is empty.
+/// Finds what a node starts on, in this folder, which must exist. Nothing is written to a file. If
+/// the log doesn't exist and may be created, an empty file is created.
 ///
-/// The log is opened and the run file looked at; where the log isn't there, that decides whether it
-/// is made. From then on it is locked, so that a second start on it is refused before it reads
-/// anything more; and the run file is looked at again, with what the log is found to be.
+/// First the log is opened and the run file is read, which decides whether a missing log is
+/// created. Then the log is locked, so that a second start on it is refused before it reads
+/// anything more. Then the run file is read again, and judged together with the state of the log.
 ///
 /// # Errors
 ///
-/// What the system refused, also where the log is locked; that the log can't be read; that of
+/// The system's refusal, also if the log is locked; `Device` if the log can't be read; those of
 /// `judge`.
 pub fn start_on(
     rt: &HostRuntime,
@@ -59,7 +59,7 @@ pub fn start_on(
     Ok(Start { disk, unwritten })
 }
 
-/// What is wanted of a run.
+/// What a run requires.
 #[derive(Drop)]
 struct Wanted<'a> {
     /// The run file's text.
@@ -68,7 +68,7 @@ struct Wanted<'a> {
     is_continued: bool,
 }
 
-/// The file of the member's log, which is made where there is none and none is missed, locked.
+/// The locked file of the member's log. It is created if it doesn't exist and none is required.
 fn locked_log(
     rt: &HostRuntime,
     folder: &str,
@@ -91,7 +91,7 @@ fn locked_log(
     }
 }
 
-/// What is done with such a log, and the run file that is read.
+/// What is done with a log in this state, and with the run file, which is read here.
 fn plan_for(
     rt: &HostRuntime,
     folder: &str,

@@ -1,11 +1,15 @@
-//! What the file says.
+//! The text of the run file.
 ghost use Rattle.std.specs.Prelude.{◌≡◌, IfOk, option_map, string_bytes};
 ghost use Rattle.run_file.specs.RunFile.{between_commas, run_text, shown_key};
 
 use stable_record::Identity;
 use std::alloc::{AllocError, Global};
 
-/// The text on a member that owns a log, in a run whose key has this fingerprint, if it has a key.
+/// The text for a member that owns a log, in a run whose key, if any, has this fingerprint.
+///
+/// # Errors
+///
+/// Out of memory.
 pub fn run_text(
     alloc: Global,
     identity: &Identity,
@@ -21,7 +25,7 @@ pub fn run_text(
     format!(in alloc; "dpbn run 1\nlisting {tree}\nweights {weights}\nmember {me}\nkey {key}\n")
 }
 
-/// The weights, with commas between them.
+/// The weights, separated by commas.
 fn weights_text(alloc: Global, weights: &[u8]) -> Result<String, AllocError>
     ensures { IfOk result (λ text. string_bytes text ≡ between_commas weights.now) }
 {
@@ -38,7 +42,7 @@ fn weights_text(alloc: Global, weights: &[u8]) -> Result<String, AllocError>
     Ok(text)
 }
 
-/// What is shown of the key.
+/// The key's fingerprint in hexadecimal, or "none".
 fn key_text(alloc: Global, key: Option<&[u8; 16]>) -> Result<String, AllocError>
     ensures { IfOk result (λ text.
         string_bytes text ≡ shown_key (option_map (λ k. k.now) key.entry)) }

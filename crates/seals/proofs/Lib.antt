@@ -1,1 +1,4 @@
+mod Bits
+pub mod Lengths
 mod SealLemmas
+mod Vectors

@@ -1,12 +1,12 @@
--- Texts and the seals behind them.
+-- Texts followed by seals.
 use Rattle.std.proofs.Common.{◌≡◌, ◌∙◌, ℕ, ◌+◌, ◌-◌, ◌<◌, List, ◌++◌, ap, arith, drop, length, length-append, sym, take}
 use Rattle.std.proofs.Math.Seq.{drop-append_seam, take-append_seam}
 use Rattle.std.proofs.lemmas.List.{append_cancel_left}
-use Rattle.hmac.proofs.Lengths.{length-hmac}
-use Rattle.hmac.specs.Hmac.{hmac}
+use Rattle.seals.proofs.Lengths.{length-hmac}
+use Rattle.seals.specs.Hmac.{hmac}
 use Rattle.seals.specs.Sealed.{sealed}
 
--- lists of the same length, with something behind each, are the same where all of it is
+-- equal lists have equal parts if the first parts have the same length
 pub parts_by_length : (xs ys s t : List ℕ) → length xs ≡ length ys → xs ++ s ≡ ys ++ t
     → (xs ≡ ys) × (s ≡ t)
 parts_by_length xs ys s t lengths same =
@@ -20,7 +20,7 @@ pub length-sealed : (key text : List ℕ) → length (sealed key text) ≡ lengt
 length-sealed key text =
     length-append text (hmac key text) ∙ ap (λ n. length text + n) (length-hmac key text)
 
--- a sealed text is one of one text
+-- a sealed text determines its text
 pub sealed-text : (key other text another : List ℕ) → sealed key text ≡ sealed other another
     → text ≡ another
 sealed-text key other text another same =
@@ -30,13 +30,13 @@ sealed-text key other text another same =
     let lengths : length text ≡ length another = omega arith in
     (parts_by_length text another (hmac key text) (hmac other another) lengths same).0
 
--- fewer bytes than a seal has are no sealed text
+-- fewer bytes than a seal has aren't a sealed text
 pub sealed-short : (key text bytes : List ℕ) → length bytes < 32 → ¬ (bytes ≡ sealed key text)
 sealed-short key text bytes short is =
     let long = ap length is ∙ length-sealed key text in
     omega arith
 
--- what stands before the last 32 bytes of a sealed text is the text, and its seal stands behind
+-- a sealed text is the text before the last 32 bytes, and then its seal
 pub sealed-parts : (key text bytes front back : List ℕ)
     → front ≡ take (length bytes - 32) bytes → back ≡ drop (length bytes - 32) bytes
     → bytes ≡ sealed key text → (front ≡ text) × (hmac key front ≡ back)

@@ -1,4 +1,5 @@
+pub mod Hmac
+pub mod KeyText
 pub mod Run
 pub mod Sealed
-pub mod KeyText
 pub mod inside

@@ -1,2 +1,3 @@
 -- What only bodies and proofs need.
+pub mod Key
 pub mod Seal

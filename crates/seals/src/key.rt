@@ -1,13 +1,14 @@
-//! The key, as a file has it.
+//! The key in a file's text.
 ghost use Rattle.std.specs.Prelude.{◌≡◌, ◌++◌, ◌∷◌, [], List, MatchOption, ℕ};
 ghost use Rattle.faults.specs.Bytes.{line_feed};
 ghost use Rattle.hex.specs.Hex.{encode_lower};
 ghost use Rattle.seals.specs.KeyText.{WritesKey};
 ghost use Rattle.seals.specs.Run.{fingerprint};
 
-use hmac::hmac;
+use crate::hmac;
 
-/// The key that the text writes: 64 hexadecimal digits and the end of the line, and nothing else.
+/// The key that the text writes. The text must be 64 hexadecimal digits and a line feed, and
+/// nothing else.
 pub fn key_of_text(text: &[u8]) -> Option<[u8; 32]>
     ensures { MatchOption result ((key : List ℕ) → ¬ (WritesKey text.now key))
         (WritesKey text.now) }
@@ -33,7 +34,7 @@ pub fn text_of_key(key: &[u8; 32]) -> [u8; 65]
     text
 }
 
-/// What may be shown of a key, so that hosts can see that they have the same one.
+/// What may be shown of a key, so that one can see that hosts have the same one.
 pub fn fingerprint(key: &[u8; 32]) -> [u8; 16]
     ensures { result ≡ fingerprint key.now }
 {

@@ -1,13 +1,18 @@
-//! What the nodes of a run put behind each text that they send, and how they tell it from what
-//! others send. That others can't make it is believed of HMAC, and not proved.
+//! The seal that the nodes of a run append to each text that they send, and by which they tell it
+//! from the texts of others: an HMAC with SHA-512, cut to 32 bytes (RFC 2104). That nobody can make
+//! a seal without the key is assumed of HMAC, and not proved.
 #![tactic(auto)]
 
+mod code;
+mod comparison;
+mod hmac_key;
 mod key;
 mod laws;
 mod seal;
-#[cfg(test)]
-mod tests;
 
+pub use crate::code::hmac;
+pub use crate::comparison::is_same;
+pub use crate::hmac_key::Key;
 pub use crate::key::{fingerprint, key_of_text, text_of_key};
 pub use crate::laws::{runs_are_told_apart, texts_are_told_apart};
 pub use crate::seal::{SEAL_SIZE, Seal};

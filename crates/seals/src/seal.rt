@@ -1,18 +1,18 @@
 //! The seal of a run.
 ghost use Rattle.std.specs.Prelude.{◌≡◌, ◌≢◌, ◌+◌, ◌≤◌, ◌++◌, ◌∷◌, IsOk, IsSomeAnd, List, MatchOption, OnErr, OnOk, codes, length, vec_capacity, vec_len, ℕ};
-ghost use Rattle.hmac.specs.Hmac.{hmac};
+ghost use Rattle.seals.specs.Hmac.{hmac};
 ghost use Rattle.seals.specs.Run.{run_key, run_text};
 ghost use Rattle.seals.specs.Sealed.{sealed};
 
+use crate::{Key, hmac, is_same};
 use arrayvec::ArrayVec;
 use faults::Memory;
-use hmac::{Key, hmac, is_same};
 use std::marker::Model;
 
-/// How many bytes a seal has.
+/// The length of a seal, in bytes.
 pub const SEAL_SIZE: usize = 32;
 
-/// What the nodes of a run seal with, which contracts see as the run's key.
+/// What the nodes of a run seal with. Contracts see it as the run's key.
 #[derive(Drop)]
 pub struct Seal {
     run_key: [u8; 32],
@@ -31,7 +31,7 @@ impl Model for Seal {
 }
 
 impl Seal {
-    /// The seal of the run over the tree with this digest, where members weigh so much, for who has
+    /// The seal of the run over the tree with this digest, among members with these weights, under
     /// this key.
     pub fn of_run(key: &[u8; 32], tree: &[u8; 32], weights: &[u8]) -> Seal
         requires few { length weights.now ≤ 9 }
@@ -44,14 +44,18 @@ impl Seal {
         }
     }
 
-    /// The same seal once more.
+    /// A copy of the seal.
     pub fn copied(&self) -> Seal
         ensures { result ≡ self.now }
     {
         seal_under(&self.run_key)
     }
 
-    /// Puts the seal behind the text. Where there is room for it, no memory is wanted.
+    /// Appends the seal to the text. If there is room for it, this doesn't allocate.
+    ///
+    /// # Errors
+    ///
+    /// Out of memory. The text is unchanged.
     pub fn put_on(&self, text: &mut Vec<u8>) -> Result<(), Memory>
         ensures ok { OnOk result (text.new.items ≡ sealed self.now text.old.items) }
         ensures err { OnErr result (text.new.items ≡ text.old.items) }
@@ -62,7 +66,7 @@ impl Seal {
         Ok(())
     }
 
-    /// The text that was sealed, if these bytes are one.
+    /// The text that was sealed, if these bytes are a sealed text.
     pub fn opened<'b>(&self, bytes: &'b [u8]) -> Option<&'b [u8]>
         ensures exact { MatchOption result
             ((text : List ℕ) → bytes.now ≢ sealed self.now text)
@@ -79,7 +83,7 @@ impl Seal {
     }
 
     /// The text's seal.
-    #[tactic(auto, unfolding(hmac::specs::Hmac::hmac))]
+    #[tactic(auto, unfolding(crate::specs::Hmac::hmac))]
     fn seal_of(&self, text: &[u8]) -> [u8; SEAL_SIZE]
         ensures { result ≡ hmac self.now text.now }
     {
@@ -97,7 +101,7 @@ fn seal_under(run_key: &[u8; SEAL_SIZE]) -> Seal
     }
 }
 
-/// What tells the run apart from others with its key.
+/// What distinguishes the run from others with its key.
 fn run_text(tree: &[u8; 32], weights: &[u8]) -> ArrayVec<u8, 52>
     requires few { length weights.now ≤ 9 }
     ensures { result.items ≡ run_text tree.now weights.now }

@@ -1,4 +1,4 @@
--- How a run of calls goes on.
+-- How a history grows.
 use Rattle.std.proofs.Common.{⊎_elim, inr, ℕ, List, [], ◌∷◌, length, take, Result, Ok, Err, sym, subst}
 use Rattle.stable_record.specs.declared.disk_fault.DiskFault.{DiskFault}
 use Rattle.stable_record.specs.History.{History, IsBytes, written, cut_to, synced, seen, overwritten}
@@ -6,7 +6,7 @@ use Rattle.stable_record.specs.Crash.{MayLeave, Leaves, Torn, AllAlong, at_first
 use Rattle.stable_record.specs.inside.Down.{WritesDown, CutsDown}
 use Rattle.stable_record.specs.inside.Possible.{overwritten_is_torn}
 
--- a write and a sync more, where all that the write may leave has P
+-- one more write and sync, if everything that the write may leave satisfies P
 pub wrote_down : {T : Type 0} (P : List ℕ → Type 0) (start old new : History) (at : ℕ) (bytes : List ℕ) (r : Result T DiskFault)
     → AllAlong P start old → Leaves P (written at (length bytes) [] ∷ old) → MayLeave old (seen old) → WritesDown at bytes old new r → AllAlong P start new
 wrote_down P start old new at bytes (Ok x) so_far leaves possible down =
@@ -17,7 +17,7 @@ wrote_down P start old new at bytes (Ok x) so_far leaves possible down =
 wrote_down P start old new at bytes (Err e) so_far leaves possible down =
     ⊎_elim (λ same. subst (AllAlong P start) (sym same) so_far) (λ part. subst (AllAlong P start) (sym part.1) (and_then (written at (length bytes) part.0) old so_far leaves)) down.failed
 
--- a cut and a sync more, where all that the cut may leave has P
+-- one more cut and sync, if everything that the cut may leave satisfies P
 pub cut_along : {T : Type 0} (P : List ℕ → Type 0) (start old new : History) (len : ℕ) (r : Result T DiskFault)
     → AllAlong P start old → Leaves P (cut_to len [] ∷ old) → MayLeave old (seen old) → CutsDown len old new r → AllAlong P start new
 cut_along P start old new len (Ok x) so_far leaves possible down =
@@ -28,7 +28,7 @@ cut_along P start old new len (Ok x) so_far leaves possible down =
 cut_along P start old new len (Err e) so_far leaves possible down =
     ⊎_elim (λ same. subst (AllAlong P start) (sym same) so_far) (λ part. subst (AllAlong P start) (sym part.1) (and_then (cut_to len part.0) old so_far leaves)) down.failed
 
--- calls that go on with what is no worse
+-- further calls that satisfy a stronger property
 pub along_on : (P Q : List ℕ → Type 0) (start mid new : History) → ((c : List ℕ) → Q c → P c) → AllAlong P start mid → AllAlong Q mid new → AllAlong P start new
 along_on P Q start mid _ so first (at_first leaves) = first
 along_on P Q start mid _ so first (and_then call h rest leaves) = and_then call h (along_on P Q start mid h so first rest) (λ c left. so c (leaves c left))

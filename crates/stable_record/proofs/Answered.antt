@@ -1,4 +1,4 @@
--- Each file of bytes opens to something.
+-- Opening a file of bytes has some answer.
 use Rattle.std.proofs.Common.{◌≡◌, ◌≢◌, ◌⊎◌, ⊎_elim, inl, inr, ℕ, suc, ◌+◌, ◌<◌, ◌≤◌, true, false, List, [], ◌∷◌, ◌++◌, length, take, drop, Result, Ok, Err, Some, None, refl, sym, ◌∙◌, ap, subst, arith, append_assoc}
 use Rattle.std.specs.Prelude.{slice_get, slice_index}
 use Rattle.std.specs.Str.{bytes_eq}
@@ -22,7 +22,7 @@ same_or_not xs ys =
     (λ other. inr (λ is. let e : false ≡ true = sym other ∙ decides.1 is in absurd cc))
     (cases_Bool (bytes_eq xs ys))
 
--- a fact that holds or doesn't
+-- a proposition that holds or doesn't
 abbrev Decided : Type 0 → Type 0
 Decided P = P ⊎ (P → ⊥)
 
@@ -54,7 +54,7 @@ begins_as : (gate : ℕ) (file : List ℕ) → Decided (slice_get file 0 ≡ Som
 begins_as gate [] = inr (λ is. absurd (let e : None ≡ Some gate = is in cc))
 begins_as gate (first ∷ rest) = ⊎_elim (λ same. inl (ap Some same)) (λ other. inr (λ is. other (let e : Some first ≡ Some gate = is in cc))) (cases_eq first gate)
 
--- a log, whoever owns it
+-- whether the file is a log, of any owner
 log_or_not : (file : List ℕ) → Decided (IsLog file)
 log_or_not file =
     likewise ((44 ≤ length file) × ((slice_get file 0 ≡ Some open_gate) × (HasMagic plain_magic file ⊎ HasMagic weighted_magic file))) (IsLog file)
@@ -97,7 +97,7 @@ module _ (i : Identity) where
       (both (length file ≡ shortest i) ((slice_get file 0 ≡ Some open_gate → ⊥) × HasMagic (magic i) file) (cases_eq (length file) (shortest i))
       (both (slice_get file 0 ≡ Some open_gate → ⊥) (HasMagic (magic i) file) (opposite (slice_get file 0 ≡ Some open_gate) (begins_as open_gate file)) (same_or_not (take 8 (drop 1 file)) (magic i))))))
 
-  -- behind the right header
+  -- after the right header
   of_owner : (file : List ℕ) → IsBytes file → take (suc (length (header i))) file ≡ open_gate ∷ header i → Answered file
   of_owner file bytes begins =
       let rest = drop (suc (length (header i))) file in

@@ -1,4 +1,5 @@
--- What a crash leaves while a file is opened opens as what it left at the start.
+-- Whatever a crash leaves while a file is being opened opens as something that it could have left
+-- at the start.
 use Rattle.std.proofs.Common.{◌≡◌, ◌⊎◌, ⊎_elim, inl, inr, ℕ, List, ◌∷◌, length, map, Vec, Ok, Err, sym, ◌∙◌, subst}
 use Rattle.std.specs.declared.alloc.Global.{Global}
 use Rattle.stable_record.specs.declared.identity.Identity.{Identity}
@@ -42,14 +43,14 @@ module _ (i : Identity) (start : History) (possible : MayLeave start (seen start
     same = λ answer. (λ here. subst (λ f. Opens i f answer) (sym is.0) here, λ there. subst (λ f. Opens i f answer) is.0 there);
   })
 
-  -- after the first sync, which was done or not
+  -- after the first sync, whether it was done or not
   pub synced_along : (new : History) → new ≡ synced ∷ start → Along new
   synced_along new is = subst Along (sym is) just_synced
 
   pub synced_or_not : (new : History) → (new ≡ start) ⊎ (new ≡ synced ∷ start) → Along new
   synced_or_not new is = ⊎_elim (λ same. subst Along (sym same) not_begun) (synced_along new) is
 
-  -- while the end is repaired or a log is made
+  -- while the end is repaired or a log is created
   pub repaired_along : length i.tree ≡ 32 → (notes : List Note) (mid new : History) → mid ≡ synced ∷ start → Opens i (seen start) (Ok notes) → StaysAs i notes mid new → Along new
   repaired_along size notes mid new is here stays =
       along_on P (λ c. Opens i c (Ok notes)) start mid new (λ c there. as_seen size notes c here there) (synced_along mid is) stays
@@ -62,7 +63,7 @@ synced_on_disk h new is = subst IsOnDisk (sym is) (λ c e. e.0)
 pub one_sync : (h new : History) → new ≡ synced ∷ h → OnlySyncs h new
 one_sync h new is = subst (OnlySyncs h) (sym is) (one_more h no_call)
 
--- what was read, over the file on the disk
+-- what was read, for the file on the disk
 pub opened_blank : (i : Identity) (file f : List ℕ) (found : Opening) → file ≡ f → OpensTo i file found → found ≡ Blank → IsBlank i f
 opened_blank i file f found same opens is = subst (IsBlank i) same (subst (OpensTo i file) is opens)
 

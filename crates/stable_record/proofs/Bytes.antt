@@ -1,4 +1,4 @@
--- Lists of bytes, and that a crash leaves such a list.
+-- Lists of bytes, and that a crash leaves only such lists.
 use Rattle.std.proofs.Common.{◌≡◌, ⊎_elim, inl, inr, ℕ, zero, suc, ◌+◌, ◌-◌, ◌<◌, List, [], ◌∷◌, ◌++◌, length, take, drop, replicate, refl, sym, subst, arith, length-take}
 use Rattle.std.proofs.lemmas.Bool.{cases_lt}
 use Rattle.std.proofs.lemmas.List.{get_or_append_left, get_or-append_right, get_or-take, get_or-drop, get_or_past, get_or-replicate, length-replicate}
@@ -57,7 +57,7 @@ left_are_bytes (cut_to len file ∷ h) c (d, left, cut) = ⊎_elim
     cut
 left_are_bytes (synced ∷ h) c is = is.1
 
--- in a past, which stays, one call more
+-- one more call, with the same past
 module _ (past later : Past) (same : later ≡ past) where
   at_first : IsBytes (seen past.calls) → WereBytes past []
   at_first start zero = start
@@ -72,7 +72,7 @@ module _ (past later : Past) (same : later ≡ past) where
   were_more e es now were (suc n) = were n
 
   module _ (es es' : List Event) (were : WereBytes past es) where
-    -- after which a read gives bytes
+    -- a call after which a read returns bytes
     pub noted : (e : Event) → es' ≡ e ∷ es → IsBytes (seen (replay past (e ∷ es))) → WereBytes later es'
     noted e is now = subst (λ p. WereBytes p es') (sym same) (subst (WereBytes past) (sym is) (were_more e es now were))
 
@@ -82,7 +82,7 @@ module _ (past later : Past) (same : later ≡ past) where
     pub noted_cut : (len : ℕ) → es' ≡ cuts len ∷ es → WereBytes later es'
     noted_cut len is = noted (cuts len) is (bytes-take len (seen (replay past es)) (were 0))
 
-    -- which failed
+    -- a call that failed
     pub noted_failed_write : (at count : ℕ) → es' ≡ fails_to_write at count ∷ es → WereBytes later es'
     noted_failed_write at count is = noted (fails_to_write at count) is (half_written_is_torn past es at count (seen (replay past es)) (were 0)).are_bytes
 

@@ -1,4 +1,4 @@
--- An entry by its bytes, and every list of bytes as entries with an end behind them.
+-- The bytes of an entry; and every list of bytes, as entries followed by an end.
 use Rattle.std.proofs.Common.{◌≡◌, ◌≢◌, ◌<◌, ◌≤◌, ◌+◌, ◌^◌, ◌⊎◌, ⊎_elim, inl, inr, ℕ, zero, suc, List, [], ◌∷◌, ◌++◌, length, take, drop, get_or, All, arith, refl, sym, ap, subst, ◌∙◌, append_assoc, length-take, length-drop}
 use Rattle.std.specs.Int.{w32, to_be_bytes, from_be_bytes}
 use Rattle.std.proofs.lemmas.Bool.{cases_lt, cases_eq}
@@ -14,7 +14,7 @@ bytes_of_front behind bytes i = ⊎_elim
     (λ past. omega (arith, get_or_past (take 4 behind) i 0 (omega (arith, length-take 4 behind))))
     (cases_lt i 4)
 
--- an open gate, four bytes and as many bytes as they say are an entry
+-- an open gate, four bytes, and as many bytes as these say, are an entry
 pub whole_entry : (file behind note rest : List ℕ) (gate n : ℕ) → file ≡ gate ∷ behind → gate ≡ open_gate → 4 ≤ length behind → IsBytes file
     → n ≡ from_be_bytes w32 (take 4 behind) → length note ≡ n → note ≡ take n (drop 4 behind) → rest ≡ drop n (drop 4 behind) → file ≡ entry note ++ rest
 whole_entry file behind note rest gate n is opened long bytes reads size front back =
@@ -26,7 +26,7 @@ whole_entry file behind note rest gate n is opened long bytes reads size front b
     is ∙ ap (λ g. g ∷ behind) opened
     ∙ ap (λ l. open_gate ∷ l) (sym (append_assoc (to_be_bytes w32 (length note)) note rest ∙ ap (λ l. l ++ (note ++ rest)) spelled ∙ ap (λ l. len ++ l) joined ∙ take-append-drop 4 behind))
 
--- entries, and an end where the gate is closed or something isn't whole
+-- entries, then an end at which the gate is closed or something is incomplete
 pub record Scanned (rest : List ℕ) : Type 0 where
   pub notes : List Note
   pub end : List ℕ

@@ -1,4 +1,4 @@
--- What files of logs stand for.
+-- The contents of a log's file.
 use Rattle.std.proofs.Common.{◌≡◌, inl, inr, ℕ, zero, suc, ◌+◌, ◌<◌, ◌^◌, List, [], ◌∷◌, ◌++◌, length, All, sym, ◌∙◌, ap, arith, append_assoc, length-append}
 use Rattle.std.proofs.lemmas.Bool.{cases_eq}
 use Rattle.std.proofs.lemmas.List.{append-nil}
@@ -9,7 +9,7 @@ use Rattle.stable_record.specs.declared.identity.Identity.{Identity}
 use Rattle.stable_record.specs.Log.{Note, open_gate, closed_gate, header, entry, entries, log_file, gate_place, HasBeforeOrAfter}
 use Rattle.stable_record.specs.inside.Staged.{staged}
 
--- what stands in front of the closed gate
+-- the bytes before the closed gate
 abbrev pub front : Identity → List Note → List ℕ
 front i notes = open_gate ∷ header i ++ entries notes
 
@@ -19,7 +19,7 @@ length-front i notes = omega (arith, length-append (open_gate ∷ header i) (ent
 pub entries-push : (notes : List Note) (note : Note) → entries (notes ++ note ∷ []) ≡ entries notes ++ entry note
 entries-push notes note = flat_map-append entry notes (note ∷ []) ∙ ap (λ (l : List ℕ). entries notes ++ l) (append-nil (entry note))
 
--- the gate opened before a staged note gives one entry more
+-- opening the gate before a staged note adds one entry
 pub file-push : (i : Identity) (notes : List Note) (note : Note) → front i notes ++ open_gate ∷ staged note ≡ log_file i (notes ++ note ∷ []) (closed_gate ∷ [])
 file-push i notes note =
     let last = closed_gate ∷ [] in
@@ -38,7 +38,7 @@ one_fits note fits (suc k) d lt = absurd (omega (arith, lt))
 pub lengths-push : (notes : List Note) (note : Note) → All (λ (n : Note). length n < 2 ^ 32) notes → length note < 2 ^ 32 → All (λ (n : Note). length n < 2 ^ 32) (notes ++ note ∷ [])
 lengths-push notes note all one = All-append (λ (n : Note). length n < 2 ^ 32) notes (note ∷ []) all (one_fits note one)
 
--- a whole note behind any gate counts or it doesn't
+-- a whole note after any gate counts or doesn't count
 pub any_gate : (i : Identity) (notes : List Note) (note : Note) (gate : ℕ) (file : List ℕ) → All (λ (n : Note). length n < 2 ^ 32) notes → length note < 2 ^ 32
     → file ≡ front i notes ++ gate ∷ staged note → HasBeforeOrAfter i notes note file
 any_gate i notes note gate file all fits is = elim (cases_eq gate open_gate) [

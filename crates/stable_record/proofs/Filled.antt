@@ -1,4 +1,4 @@
--- A byte put into ranges of a file, and what a disk in memory may leave.
+-- Writing a byte into ranges of a file, and what a disk in memory may leave.
 use Rattle.std.proofs.Common.{◌≡◌, ⊎_elim, inl, inr, ℕ, zero, suc, ◌+◌, ◌-◌, ◌<◌, ◌≤◌, ◌==◌, true, false, min, max, List, [], ◌∷◌, ◌++◌, length, take, drop, replicate, refl, sym, ◌∙◌, ap, subst, arith, append_assoc, length-append, length-take, length-drop}
 use Rattle.std.proofs.lemmas.Bool.{cases_lt}
 use Rattle.std.proofs.lemmas.List.{append-nil, nil_from_length, take_at, take-append-drop, drop_all, drop_at, length-replicate}
@@ -13,7 +13,7 @@ use Rattle.stable_record.specs.Pasts.{no_past}
 use Rattle.stable_record.specs.inside.Possible.{half_written_is_torn, overwritten_is_torn, replay_possible, unchanged}
 use Rattle.stable_record.proofs.Bytes.{bytes-append, bytes-take, bytes-drop, bytes-replicate}
 
--- one range, place by place
+-- one range, index by index
 take_nil : (n : ℕ) → take {A = ℕ} n [] ≡ []
 take_nil zero = refl
 take_nil (suc n) = refl
@@ -56,7 +56,7 @@ take-blanked b (zero, zero) (suc k) (x ∷ xs) = refl
 take-blanked b (zero, suc n) (suc k) (x ∷ xs) = ap (take (suc k)) (blanked_in b n x xs) ∙ ap (λ l. b ∷ l) (take-blanked b (zero, n) k xs) ∙ sym (blanked_in b n x (take k xs))
 take-blanked b (suc at, n) (suc k) (x ∷ xs) = ap (take (suc k)) (blanked_past b at n x xs) ∙ ap (λ l. x ∷ l) (take-blanked b (at, n) k xs) ∙ sym (blanked_past b at n x (take k xs))
 
--- from a place on it looks at what is there
+-- from a place on, the result depends only on what is there
 drop-blanked : (b : ℕ) (r : ℕ × ℕ) (k : ℕ) (f g : List ℕ) → length f ≡ length g → drop k f ≡ drop k g → drop k (blanked b r f) ≡ drop k (blanked b r g)
 drop-blanked b r zero f g size same = ap (blanked b r) same
 drop-blanked b r (suc k) [] [] size same = refl
@@ -68,7 +68,7 @@ drop-blanked b (zero, suc n) (suc k) (x ∷ xs) (y ∷ ys) size same =
 drop-blanked b (suc at, n) (suc k) (x ∷ xs) (y ∷ ys) size same =
     ap (drop (suc k)) (blanked_past b at n x xs) ∙ drop-blanked b (at, n) k xs ys (omega (arith, size)) same ∙ sym (ap (drop (suc k)) (blanked_past b at n y ys))
 
--- and some ranges
+-- several ranges
 length-filled : (b : ℕ) (rs : List (ℕ × ℕ)) (f : List ℕ) → length (filled b rs f) ≡ length f
 length-filled b [] f = refl
 length-filled b (r ∷ rs) f = length-filled b rs (blanked b r f) ∙ length-blanked b r f
@@ -98,7 +98,7 @@ bytes-filled : (b : ℕ) → b < 256 → (rs : List (ℕ × ℕ)) (f : List ℕ)
 bytes-filled b byte [] f are = are
 bytes-filled b byte (r ∷ rs) f are = bytes-filled b byte rs (blanked b r f) (bytes-blanked b byte r f are)
 
--- a write of no bytes leaves the file as it is
+-- a write of no bytes leaves the file unchanged
 torn_nowhere : (at : ℕ) (f after : List ℕ) → Torn at 0 f after → after ≡ f
 torn_nowhere at f after torn =
     let same : length after ≡ length f = omega (arith, torn.no_shorter, torn.no_longer) in
@@ -131,7 +131,7 @@ module _ (b at more : ℕ) (f after : List ℕ) (torn : Torn at (suc more) f aft
       ap (take start) (torn.parts ∙ append_assoc (take at f) torn.middle back)
       ∙ take_at (take at f) (torn.middle ++ back) start (length-take at f)
 
-  -- the file goes on behind the range, and is as long as before
+  -- the file continues after the range, and is as long as before
   same_size : at + size ≤ length f → length after ≡ length f
   same_size within = omega (arith, within, torn.no_shorter, torn.no_longer)
 
@@ -184,7 +184,7 @@ calls es = replay no_past es
 abbrev Were : List Event → Type 0
 Were = WereBytes no_past
 
--- the bytes as of the last sync
+-- the bytes at the last sync
 on_disk_bytes : (es : List Event) → Were es → IsBytes (on_disk (calls es))
 on_disk_bytes [] were = were 0
 on_disk_bytes (holds file ∷ es) were = were 0
@@ -196,7 +196,7 @@ on_disk_bytes (measures len ∷ es) were = on_disk_bytes es (λ k. were (suc k))
 on_disk_bytes (fails_to_write at count ∷ es) were = on_disk_bytes es (λ k. were (suc k))
 on_disk_bytes (fails_to_cut len ∷ es) were = on_disk_bytes es (λ k. were (suc k))
 
--- a write of so many bytes that left nothing on the disk
+-- a write of `count` bytes that left nothing on the disk
 not_there : (at count : ℕ) (es : List Event) → Were es → MayLeave (calls es) (on_disk (calls es))
     → (d : List ℕ) × MayLeave (calls es) d × Torn at count d (on_disk (calls es))
 not_there at count es were so_far = (on_disk (calls es), so_far, unchanged at count (on_disk (calls es)) (on_disk_bytes es were))
@@ -212,11 +212,11 @@ before_possible (measures len ∷ es) were = before_possible es (λ k. were (suc
 before_possible (fails_to_write at count ∷ es) were = not_there at count es (λ k. were (suc k)) (before_possible es (λ k. were (suc k)))
 before_possible (fails_to_cut len ∷ es) were = (on_disk (calls es), before_possible es (λ k. were (suc k)), inl refl)
 
--- every unsynced place with one byte
+-- the file with one byte in every unsynced place
 abbrev wetted : ℕ → History → List ℕ
 wetted b h = filled b (unsynced h) (seen h)
 
--- a write more
+-- one more write
 wetted_write : (b at count : ℕ) → b < 256 → (after : List ℕ) (es : List Event) → Were es → Torn at count (seen (calls es)) after → MayLeave (calls es) (wetted b (calls es))
     → (d : List ℕ) × MayLeave (calls es) d × Torn at count d (wetted b (written at count after ∷ calls es))
 wetted_write b at zero byte after es were torn so_far =
@@ -242,19 +242,19 @@ fill_possible b byte (fails_to_write at count ∷ es) were =
     wetted_write b at count byte (half_written no_past es at count (seen (calls es))) es so_far (half_written_is_torn no_past es at count (seen (calls es)) (so_far 0)) (fill_possible b byte es so_far)
 fill_possible b byte (fails_to_cut len ∷ es) were = (wetted b (calls es), fill_possible b byte es (λ k. were (suc k)), inl refl)
 
--- the byte that the disk is told to leave is one
+-- what the disk is told to fill with is a byte
 abbrev pub TellsByte : Left → Type 0
 TellsByte Before = Unit {0}
 TellsByte Written = Unit {0}
 TellsByte (Fill b) = b < 256
 
--- a write of some bytes is one range more
+-- a write of at least one byte adds one range
 pub unsynced_push : (at : ℕ) (bs file : List ℕ) (h : History) → (length bs == 0) ≡ false
     → unsynced (written at (length bs) file ∷ h) ≡ unsynced h ++ (min at (length (seen h)), at + length bs - min at (length (seen h))) ∷ []
 unsynced_push at [] file h some = absurd (let e : true ≡ false = some in cc)
 unsynced_push at (x ∷ xs) file h some = refl
 
--- what a disk in memory is told to leave is among what a crash may leave
+-- what a disk in memory is told to leave is one of the files that a crash may leave
 pub left_possible : (left : Left) (es : List Event) → TellsByte left → Were es → MayLeave (calls es) (left_file left (calls es))
 left_possible Before es byte were = before_possible es were
 left_possible Written es byte were = replay_possible no_past es were

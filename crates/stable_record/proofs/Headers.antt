@@ -1,4 +1,4 @@
--- What stands between a log's first gate and its first note.
+-- The bytes between a log's first gate and its first note.
 use Rattle.std.proofs.Common.{◌≡◌, ◌⊎◌, ⊎_elim, inl, inr, ℕ, ◌+◌, ◌≤◌, true, false, List, [], ◌∷◌, ◌++◌, length, take, drop, get_or, refl, ◌∙◌, ap, arith, append_assoc, length-append}
 use Rattle.std.specs.Prelude.{if◌then◌else◌}
 use Rattle.std.proofs.lemmas.List.{take_at, get_or-append_right}
@@ -33,7 +33,7 @@ module _ (i : Identity) where
         length-append (magic i) i.tree,
       )
 
-  -- whatever a digest is
+  -- whatever the digest is
   pub header_no_less : 10 ≤ length (header i)
   header_no_less =
       omega (
@@ -50,7 +50,7 @@ module _ (i : Identity) where
       ap (λ l. get_or l 40 0) (append_assoc (magic i ++ i.tree ++ two) (written_weights i) rest ∙ append_assoc (magic i ++ i.tree) two (written_weights i ++ rest))
       ∙ get_or-append_right (magic i ++ i.tree) (two ++ (written_weights i ++ rest)) 40 40 0 (omega (arith, size, magic_len, length-append (magic i) i.tree)) (omega arith)
 
-  -- the magic tells whether the weights are there
+  -- the magic determines whether the weights are written
   pub weights_there : magic i ≡ weighted_magic → written_weights i ≡ i.weights.items
   weights_there =
       elim (are_ones i.weights.items) as (λ b. (if b then plain_magic else weighted_magic) ≡ weighted_magic → (if b then [] else i.weights.items) ≡ i.weights.items) [

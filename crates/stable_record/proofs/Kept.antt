@@ -1,9 +1,9 @@
--- Bytes that are kept before a file is changed, in front of those that are kept already.
+-- Bytes saved before a file is changed are put in front of those saved earlier.
 use Rattle.std.proofs.Common.{◌≡◌, ◌∙◌, ◌<◌, ◌≤◌, ◌-◌, ◌+◌, ℕ, List, ◌++◌, ap, arith, drop, length, length-drop, sym, take}
 use Rattle.std.proofs.Math.Seq.{drop-append_seam, take-add, take-append_seam}
 use Rattle.std.proofs.lemmas.List.{append_assoc, length-append, length-take-le}
 
--- turned round by so many as were added at the end, these stand in front
+-- rotating a list by the length of its appended part puts that part in front
 turned : {X : Type 0} (before kept : List X) (k : ℕ) → length kept ≡ k
     → drop (length (before ++ kept) - k) (before ++ kept) ++ take (length (before ++ kept) - k) (before ++ kept) ≡ kept ++ before
 turned {X} before kept k is =
@@ -12,8 +12,8 @@ turned {X} before kept k is =
     ∙ ap (λ (xs : List X). xs ++ take (length before) (before ++ kept)) (drop-append_seam before kept)
     ∙ ap (λ (xs : List X). kept ++ xs) (take-append_seam before kept)
 
--- what stands between two places, in front of what is kept from the second on, is kept from the
--- first on
+-- the bytes between two places, in front of those saved from the second place on, are those saved
+-- from the first place on
 pub kept_from : {X : Type 0} (place unchanged size : ℕ) (file before grown new : List X) → place < unchanged → unchanged ≤ length file
     → grown ≡ before ++ take (unchanged - place) (drop place file)
     → size ≡ length grown

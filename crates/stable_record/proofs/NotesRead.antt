@@ -1,4 +1,4 @@
--- The notes that a file gives, read one by one.
+-- The notes read from a file, one by one.
 use Rattle.std.proofs.Common.{◌≡◌, ◌≢◌, ℕ, ◌-◌, ◌<◌, ◌≤◌, ◌^◌, List, [], ◌∷◌, ◌++◌, length, take, drop, map, All, Vec, sym, ◌∙◌, ap, arith, append_assoc, length-append}
 use Rattle.std.specs.declared.alloc.Global.{Global}
 use Rattle.std.proofs.lemmas.List.{map_push, take-append-drop}
@@ -7,7 +7,7 @@ use Rattle.stable_record.specs.Log.{Note, note_of, open_gate, header, entry, ent
 use Rattle.stable_record.specs.Opening.{IsBroken, IsCutShort}
 use Rattle.stable_record.proofs.Files.{entries-push, lengths-push}
 
--- one more
+-- one more note
 pub entries_more : (notes notes' : List (Vec ℕ Global)) (bytes : Vec ℕ Global) (note body rest behind : List ℕ) → body ≡ entries (map note_of notes) ++ rest → rest ≡ entry note ++ behind
     → bytes.items ≡ note → notes' ≡ notes ++ bytes ∷ [] → body ≡ entries (map note_of notes') ++ behind
 entries_more notes notes' bytes note body rest behind parts next same pushed =

@@ -1,4 +1,4 @@
--- A file opens to one thing.
+-- Opening a file has only one answer.
 use Rattle.std.proofs.Common.{◌≡◌, ◌≢◌, inl, inr, ℕ, suc, ◌+◌, ◌<◌, ◌^◌, List, [], ◌∷◌, ◌++◌, length, take, drop, All, Result, Ok, Err, Some, refl, sym, ◌∙◌, ap, subst, arith, append_assoc, length-append}
 use Rattle.std.specs.Int.{w32, to_be_bytes, from_be_bytes}
 use Rattle.std.specs.Prelude.{slice_get, slice_index}
@@ -21,7 +21,7 @@ fit_first n ns all = all 0 [] (omega arith)
 fit_rest : (n : Note) (ns : List Note) → Fit (n ∷ ns) → Fit ns
 fit_rest n ns all = λ k d lt. all (suc k) d (omega arith)
 
--- two files that begin with an entry begin with the same one
+-- files that begin with entries and are equal begin with the same entry
 entry_once : (n m : Note) (x y : List ℕ) → length n < 2 ^ 32 → length m < 2 ^ 32 → entry n ++ x ≡ entry m ++ y → (n ≡ m) × (x ≡ y)
 entry_once n m x y fits_n fits_m is =
     let tails : (to_be_bytes w32 (length n) ++ n) ++ x ≡ (to_be_bytes w32 (length m) ++ m) ++ y = ap (drop 1) is in
@@ -30,11 +30,11 @@ entry_once n m x y fits_n fits_m is =
     let behind : n ++ x ≡ m ++ y = ap (drop 4) tails in
     (sym (take_at n x (length n) refl) ∙ ap (take (length n)) behind ∙ take_at m y (length n) (sym sizes), sym (drop_at n x (length n) refl) ∙ ap (drop (length n)) behind ∙ drop_at m y (length n) (sym sizes))
 
--- two lists that begin alike
+-- equal lists have equal first elements
 same_head : (x y : ℕ) (xs ys : List ℕ) → x ∷ xs ≡ y ∷ ys → x ≡ y
 same_head x y xs ys is = cc
 
--- notes in front of a closed gate
+-- notes before a closed gate are determined by the bytes
 pub notes_once : (ns ms : List Note) (g h : ℕ) (b d : List ℕ) → Fit ns → Fit ms → g ≢ open_gate → h ≢ open_gate → entries ns ++ g ∷ b ≡ entries ms ++ h ∷ d → ns ≡ ms
 notes_once [] [] g h b d fit_n fit_m shut_g shut_h is = refl
 notes_once [] (m ∷ ms) g h b d fit_n fit_m shut_g shut_h is = absurd (shut_g (same_head g open_gate b ((to_be_bytes w32 (length m) ++ m ++ entries ms) ++ h ∷ d) is))
@@ -45,7 +45,7 @@ notes_once (n ∷ ns) (m ∷ ms) g h b d fit_n fit_m shut_g shut_h is =
     let rest = notes_once ns ms g h b d (fit_rest n ns fit_n) (fit_rest m ms fit_m) shut_g shut_h both.1 in
     ap (λ x. x ∷ ns) both.0 ∙ ap (λ xs. m ∷ xs) rest
 
--- a file with notes doesn't break off
+-- a file with notes isn't truncated
 pub not_broken : (ns ws : List Note) (g : ℕ) (b end : List ℕ) → Fit ns → Fit ws → g ≢ open_gate → IsCutShort end → entries ns ++ g ∷ b ≡ entries ws ++ end → ⊥
 not_broken [] [] g b end fit_n fit_w shut short is = shut (subst IsCutShort (sym is) short).0
 not_broken [] (w ∷ ws) g b end fit_n fit_w shut short is = shut (same_head g open_gate b ((to_be_bytes w32 (length w) ++ w ++ entries ws) ++ end) is)
@@ -60,7 +60,7 @@ not_broken (n ∷ ns) (w ∷ ws) g b end fit_n fit_w shut short is =
     let both = entry_once n w (entries ns ++ g ∷ b) (entries ws ++ end) (fit_first n ns fit_n) (fit_first w ws fit_w) behind in
     not_broken ns ws g b end (fit_rest n ns fit_n) (fit_rest w ws fit_w) shut short both.1
 
--- what stands in front of the notes
+-- the part before the notes
 module _ (i : Identity) (notes : List Note) (end file : List ℕ) (is : file ≡ log_file i notes end) where
   body : file ≡ (open_gate ∷ header i) ++ (entries notes ++ end)
   body = is ∙ append_assoc (open_gate ∷ header i) (entries notes) end
@@ -77,13 +77,13 @@ module _ (i : Identity) (notes : List Note) (end file : List ℕ) (is : file ≡
   long : length file ≡ 1 + length (header i) + length (entries notes) + length end
   long = omega (arith, ap length body, length-append (open_gate ∷ header i) (entries notes ++ end), length-append (entries notes) end)
 
-  -- it isn't blank
+  -- such a file isn't blank
   pub blank_no_log : IsBlank i file → ⊥
   blank_no_log (no_more_than_a_gate few) = omega (arith, few, long, header_no_less i)
   blank_no_log (begun few shut) = absurd (let e : Some open_gate ≡ Some closed_gate = sym first_byte ∙ shut in cc)
   blank_no_log (not_opened few shut right) = shut first_byte
 
-  -- with a gate it is as long as a log
+  -- with a gate, it is long enough for a log
   pub log_no_less : length i.tree ≡ 32 → 0 < length end → IsLog file
   log_no_less size some = record {
     long_enough = omega (arith, long, some, header_len i size);
@@ -91,7 +91,7 @@ module _ (i : Identity) (notes : List Note) (end file : List ℕ) (is : file ≡
     is_magic = either_magic i file has_magic;
   }
 
-  -- and its weights are there
+  -- its weights are complete
   pub weights_no_less : length i.tree ≡ 32 → 0 < length end → LacksWeights file → ⊥
   weights_no_less size some lacks =
       let own : magic i ≡ weighted_magic = sym has_magic ∙ lacks.is_weighted in
@@ -103,7 +103,7 @@ open_no_blank i file log (no_more_than_a_gate few) = omega (arith, few, log.long
 open_no_blank i file log (begun few shut) = absurd (let e : Some open_gate ≡ Some closed_gate = sym log.is_open ∙ shut in cc)
 open_no_blank i file log (not_opened few shut right) = shut log.is_open
 
--- with notes, of another owner, and no log: two at a time
+-- having notes, having another owner, and not being a log exclude each other
 module _ (i : Identity) (size : length i.tree ≡ 32) (file : List ℕ) where
   found_is_log : (notes : List Note) → HasNotes i notes file → IsLog file
   found_is_log notes has = log_no_less i notes (has.gate ∷ has.behind) file has.parts size (omega arith)

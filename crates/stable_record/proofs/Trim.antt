@@ -1,4 +1,4 @@
--- Cutting off what is behind the closed gate.
+-- Cutting off what comes after the closed gate.
 use Rattle.std.proofs.Common.{◌≡◌, ⊎_elim, inr, ℕ, ◌+◌, ◌≤◌, List, [], ◌∷◌, ◌++◌, length, take, Result, Ok, Err, OnOk, sym, ◌∙◌, ap, subst, arith, append_assoc, length-append}
 use Rattle.std.proofs.lemmas.List.{take_at, nil_from_length}
 use Rattle.stable_record.specs.declared.disk_fault.DiskFault.{DiskFault}
@@ -31,7 +31,7 @@ module _ (i : Identity) (notes : List Note) (end : ℕ) (h : History) (on_disk :
   cut_has : (c : List ℕ) → c ≡ take (end + 1) (seen h) → IsSame c
   cut_has c is = inr record { gate = has.gate; behind = []; parts = is ∙ shorter; closed = has.closed; lengths = has.lengths }
 
-  -- no call yet
+  -- before the first call
   pub untouched : (new : History) → new ≡ h → StaysAs i notes h new
   untouched new same = subst (StaysAs i notes h) (sym same) (at_first (λ c left. still c (on_disk c left)))
 
@@ -52,7 +52,7 @@ module _ (i : Identity) (notes : List Note) (end : ℕ) (h : History) (on_disk :
   }
   trimmed_result new (Err e) down = tt
 
-  -- there is nothing behind it
+  -- if nothing comes after the closed gate
   pub as_it_was : length (seen h) ≤ end + 1 → IsSettled h i notes end
   as_it_was short = record {
     gate = has.gate;

@@ -1,4 +1,4 @@
--- What a disk does that fails as it was told.
+-- What a disk does that is set to fail.
 use Rattle.std.specs.Prelude.{◌≡◌, ◌↔◌, Result, IsErrOf, IsTrue}
 use Rattle.stable_record.specs.declared.disk_fault.DiskFault.{DiskFault}
 use Rattle.stable_record.specs.declared.disk_fault.DiskFault.TheVariants.{Device}
@@ -8,16 +8,16 @@ use Rattle.stable_record.specs.History.{History}
 use Rattle.stable_record.specs.InMemory.{mem_history, mem_room}
 use Rattle.stable_record.specs.Room.{Room}
 
--- what the disk in memory within went through
+-- the history of the disk in memory inside it
 abbrev pub history_of : FaultDisk → History
 history_of disk = mem_history disk.inner
 
--- what may be written to it without want of memory
+-- how much can be written to it without running out of memory
 abbrev pub room_of : FaultDisk → Room
 room_of disk = mem_room disk.inner
 
--- The call is one more, and the device fails exactly if that call is one that is to fail; then
--- nothing was done.
+-- The call is counted, and the device fails if and only if the call is one that should fail; a call
+-- that fails has no effect.
 pub record FailsAsTold {T : Type 0} (old new : FaultDisk) (result : Result T DiskFault)
     : Type 0 where
   pub counted : new.calls ≡ one_more old.calls

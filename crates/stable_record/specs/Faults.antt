@@ -1,4 +1,4 @@
--- How a disk counts its failures, and what a call that was refused has done.
+-- How a disk counts its failures, and what a refused call has done.
 use Rattle.std.specs.Prelude.{◌≡◌, ◌⊎◌, ℕ, ◌+◌, ◌≤◌, ◌==◌, nat_le, nat_lt, Bool, if◌then◌else◌, List, ◌∷◌, length, take, drop, min, ◌-◌, Result, Ok, Err, OnOk, OnErr, IsErrOf}
 use Rattle.stable_record.specs.declared.disk_fault.DiskFault.{DiskFault}
 use Rattle.stable_record.specs.declared.disk_fault.DiskFault.TheVariants.{Memory, Device}
@@ -7,27 +7,28 @@ use Rattle.stable_record.specs.declared.fault_disk.Failing.TheVariants.{Once, Fr
 use Rattle.stable_record.specs.History.{History, Call, written, cut_to, synced, seen, overwritten}
 use Rattle.stable_record.specs.Crash.{Torn, CutOrNot}
 
--- one failure more: the greatest count stays
+-- the count after one more failure; it stays at the maximum
 abbrev pub one_more : ℕ → ℕ
 one_more count = if nat_lt count 18446744073709551615 then count + 1 else count
 
--- the count after a call: a failure of the device is counted, and nothing else
+-- the count after a call: only failures of the device are counted
 abbrev pub counted : {T : Type 0} → Result T DiskFault → ℕ → ℕ
 counted (Ok x) count = count
 counted (Err Memory) count = count
 counted (Err Device) count = one_more count
 
--- the call with this number is one that is to fail
+-- Whether the call with this number should fail.
 abbrev pub is_due : Failing → ℕ → Bool
 is_due (Once call) number = number == call
 is_due (From call) number = nat_le call number
 
--- the count rose since; the greatest count counts as risen
+-- The count rose between the two; a count at the maximum counts as risen.
 abbrev pub HasRisen : ℕ → ℕ → Type 0
 HasRisen before now = one_more before ≤ now
 
--- The call went on with what it did. If the device failed, it may have been done in part or not at
--- all, and what a read gives is what such a call may leave. If memory was wanting, it was not done.
+-- The effect of a call. If the device failed, the call may have been done partly, completely or not
+-- at all, and a read then returns what such a call may leave. If it ran out of memory, the call was
+-- not done.
 pub record Does {T : Type 0} (call : List ℕ → Call) (right : List ℕ)
     (partly : List ℕ → List ℕ → Type 0) (old new : History) (result : Result T DiskFault)
     : Type 0 where
@@ -46,12 +47,12 @@ Writes at bytes old new result =
 abbrev pub Cuts : {T : Type 0} → ℕ → History → History → Result T DiskFault → Type 0
 Cuts len old new result = Does (cut_to len) (take len (seen old)) (CutOrNot len) old new result
 
--- a sync: one that failed counts as none
+-- a sync; one that failed has no effect
 abbrev pub Syncs : {T : Type 0} → History → History → Result T DiskFault → Type 0
 Syncs old new result = OnOk result (new ≡ synced ∷ old) × OnErr result (new ≡ old)
 
--- the first count bytes of the buffer are those at this place, and they are all that fit or that
--- there are
+-- The first `count` bytes of the buffer are those of the file at this place, and `count` is as
+-- large as the buffer and the file allow.
 pub record ReadsAt (file : List ℕ) (at count : ℕ) (buf : List ℕ) : Type 0 where
   pub bytes : take count buf ≡ take count (drop at file)
   pub all : count ≡ min (length buf) (length file - at)

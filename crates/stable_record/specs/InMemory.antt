@@ -1,4 +1,4 @@
--- A disk in memory, by what it went through.
+-- A disk in memory and its history.
 use Rattle.std.specs.Prelude.{◌-◌, min, length, vec_capacity}
 use Rattle.stable_record.specs.declared.mem_disk.MemDisk.{MemDisk}
 use Rattle.stable_record.specs.Events.{replay}
@@ -10,7 +10,7 @@ use Rattle.stable_record.specs.Room.{Room}
 abbrev pub mem_history : MemDisk → History
 mem_history disk = replay no_past disk.noted.events
 
--- what may be written to it without want of memory
+-- how much can be written to it without running out of memory
 abbrev pub mem_room : MemDisk → Room
 mem_room disk = record {
   bytes = min (vec_capacity disk.file) (vec_capacity disk.before) - length disk.file.items;

@@ -1,4 +1,4 @@
--- What a file is opened as.
+-- What opening a file returns.
 use Rattle.std.specs.Prelude.{◌≡◌, ◌≢◌, ◌⊎◌, ◌↔◌, ℕ, ◌+◌, ◌<◌, ◌≤◌, ◌^◌, All, List, [], ◌∷◌, ◌++◌, length, take, drop, Some, Result, Ok, Err, slice_get, slice_index}
 use Rattle.std.specs.Int.{w32, from_be_bytes}
 use Rattle.stable_record.specs.declared.identity.Identity.{Identity}
@@ -13,39 +13,38 @@ use Rattle.stable_record.specs.Crash.{MayLeave}
 abbrev pub shortest : Identity → ℕ
 shortest i = 2 + length (header i)
 
--- behind its first byte the file has the header of this owner
+-- The file has the header of this owner after its first byte.
 abbrev pub IsAsOwner : Identity → List ℕ → Type 0
 IsAsOwner i file = take (length (header i)) (drop 1 file) ≡ header i
 
--- A log is to be made of this file: it has at most one byte; or it is no longer than a log without
--- notes, and its first byte is 0; or it is just as long as one, its first byte isn't 1, and the
--- right magic stands behind that byte.
+-- A log must be created in this file, in three cases. The file has at most one byte. Or it is no
+-- longer than a log without notes, and its first byte is 0. Or it is exactly that long, its first
+-- byte isn't 1, and the right magic comes after that byte.
 pub data IsBlank (i : Identity) (file : List ℕ) : Type 0 where
   no_more_than_a_gate : length file ≤ 1 → IsBlank i file
   begun : length file ≤ shortest i → slice_get file 0 ≡ Some closed_gate → IsBlank i file
   not_opened : length file ≡ shortest i → slice_get file 0 ≢ Some open_gate
       → HasMagic (magic i) file → IsBlank i file
 
--- The file is a log, whoever opens it: it has at least 44 bytes, the first byte is 1, and either
--- magic is behind it.
+-- The file is a log, whoever opens it: it has at least 44 bytes, the first byte is 1, and one of
+-- the two magics comes after it.
 pub record IsLog (file : List ℕ) : Type 0 where
   pub long_enough : 44 ≤ length file
   pub is_open : slice_get file 0 ≡ Some open_gate
   pub is_magic : HasMagic plain_magic file ⊎ HasMagic weighted_magic file
 
--- A log with weights is too short for those of all its members, whose number is byte 41.
+-- A log with weights is too short to have those of all its members, whose number is byte 41.
 pub record LacksWeights (file : List ℕ) : Type 0 where
   pub is_weighted : HasMagic weighted_magic file
   pub too_short : length file < 44 + slice_index file 41
 
--- The gate isn't there; or it is open, and the length, the note or the gate behind it isn't whole
--- in the file.
+-- There is no gate; or it is open, and the length, the note or the gate after it is incomplete.
 abbrev pub IsCutShort : List ℕ → Type 0
 IsCutShort [] = Unit {0}
 IsCutShort (gate ∷ rest) =
     (gate ≡ open_gate) × (length rest < 4 + from_be_bytes w32 (take 4 rest) + 1)
 
--- behind some whole notes the file breaks off
+-- The file is truncated after some whole notes.
 pub record IsBroken (i : Identity) (file : List ℕ) : Type 0 where
   pub whole : List Note
   pub end : List ℕ
@@ -53,21 +52,22 @@ pub record IsBroken (i : Identity) (file : List ℕ) : Type 0 where
   pub lengths : All (λ note. length note < 2 ^ 32) whole
   pub cut_short : IsCutShort end
 
--- For this owner the file is no log: it isn't blank for it, nor a log of anybody; or it is one that
--- lacks weights, or that breaks off behind the right header. Another owner may still find it blank:
--- 47 bytes with first byte 0 are blank for one of three members with weights, and not for others.
+-- For this owner the file is not a log: it is neither blank for it nor anybody's log; or it is a
+-- log that lacks weights, or is truncated after the right header. Another owner may still find it
+-- blank: 47 bytes that begin with 0 are blank for one of three members with weights, but not for
+-- others.
 pub data IsNoLog (i : Identity) (file : List ℕ) : Type 0 where
   neither : ¬ (IsBlank i file) → ¬ (IsLog file) → IsNoLog i file
   lacks_weights : IsLog file → LacksWeights file → IsNoLog i file
   broken : IsBroken i file → IsNoLog i file
 
--- The file is a log, but this isn't its owner: magic, tree, members, own number or weights differ.
+-- The file is a log with another owner: magic, tree, members, own number or weights differ.
 pub record IsOfOthers (i : Identity) (file : List ℕ) : Type 0 where
   pub is_log : IsLog file
   pub has_weights : ¬ (LacksWeights file)
   pub differs : ¬ (IsAsOwner i file)
 
--- what opening a file answers, want of memory and failures of the device aside
+-- what opening a file returns, unless memory runs out or the device fails
 abbrev pub Opens : Identity → List ℕ → Result (List Note) LogFault → Type 0
 Opens i file (Ok notes) = (IsBlank i file × (notes ≡ [])) ⊎ HasNotes i notes file
 Opens i file (Err OtherCluster) = IsOfOthers i file
@@ -77,14 +77,15 @@ Opens i file (Err Device) = ⊥
 Opens i file (Err Full) = ⊥
 Opens i file (Err MustReopen) = ⊥
 
--- The file opens as some file of bytes that a crash at the start could have left.
+-- Opening the file returns the same as opening some file of bytes that a crash at the start could
+-- have left.
 pub record OpensAsLeft (i : Identity) (start : History) (file : List ℕ) : Type 0 where
   pub left : List ℕ
   pub are_bytes : IsBytes left
   pub could_be : MayLeave start left
   pub same : (answer : Result (List Note) LogFault) → Opens i left answer ↔ Opens i file answer
 
--- Each file of bytes opens to something, and no file to two things.
+-- Opening a file of bytes has exactly one answer.
 pub record HasOneAnswer (i : Identity) : Type 0 where
   pub some_answer : (file : List ℕ) → IsBytes file
       → (answer : Result (List Note) LogFault) × Opens i file answer

@@ -1,4 +1,4 @@
-//! A disk in memory that fails as it was told.
+//! A disk in memory that fails at given calls.
 ghost use Rattle.std.specs.Prelude.{◌≡◌, ◌≤◌, ⊤, if◌then◌else◌, IfOk, length};
 ghost use Rattle.stable_record.specs.Faults.{Cuts, ReadsAt, Syncs, Writes, counted, is_due, one_more};
 ghost use Rattle.stable_record.specs.History.{seen};
@@ -9,29 +9,29 @@ ghost use Rattle.stable_record.specs.inside.Possible.{replay_possible};
 use crate::{Disk, DiskFault, MemDisk};
 use faults::Memory;
 
-/// Which calls fail: `read`, `write_at`, `cut` and `sync` are counted, from 1.
+/// Which calls fail. Calls of `read`, `write_at`, `cut` and `sync` are counted, from 1.
 #[derive(Clone, Copy, Debug, PartialEq, Eq)]
 pub enum Failing {
-    /// The call with this number alone.
+    /// Only the call with this number.
     Once(u64),
-    /// That call and all later ones.
+    /// The call with this number and all later ones.
     From(u64),
 }
 
-/// A disk in memory whose device fails at the calls that it was told, and at no others. A call that
-/// fails answers `DiskFault::Device` and has no effect but that it is counted. `len` and `reserve`
-/// are not counted, and the device doesn't fail at them.
+/// A disk in memory whose device fails at exactly the given calls. A call that fails returns
+/// `DiskFault::Device`; it is counted, but has no other effect. `len` and `reserve` are not counted
+/// and never fail because of the device.
 #[derive(Drop)]
 pub struct FaultDisk {
     inner: MemDisk,
     failing: Failing,
-    /// The calls so far.
+    /// The number of calls so far.
     calls: u64,
     failures: u64,
 }
 
 impl FaultDisk {
-    /// A disk over this one, with no call counted yet.
+    /// A disk over this one, with no calls counted yet.
     pub fn new(inner: MemDisk, failing: Failing) -> FaultDisk
         ensures inner { result.inner ≡ inner }
         ensures failing { result.failing ≡ failing }
@@ -45,14 +45,14 @@ impl FaultDisk {
         }
     }
 
-    /// The disk in memory, with what the calls that didn't fail have done.
+    /// The disk in memory, with the effects of the calls that didn't fail.
     pub fn into_inner(self) -> MemDisk
         ensures { result ≡ self.inner }
     {
         self.inner
     }
 
-    /// Counts a call, and tells whether it fails.
+    /// Counts a call, and returns whether it fails.
     fn fails(&mut self) -> bool
         ensures due { result ≡ is_due self.old.failing self.new.calls }
         ensures calls { self.new.calls ≡ one_more self.old.calls }

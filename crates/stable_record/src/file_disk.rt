@@ -1,4 +1,4 @@
-//! A file of the operating system. Each call is noted with its answer, for clauses alone.
+//! A file of the operating system. Each call is recorded with its result, for contracts only.
 ghost use Rattle.std.specs.Prelude.{◌≡◌, ◌≢◌, ◌≤◌, ◌∷◌, [], length, IfOk, IfSome, IsErrOf};
 ghost use Rattle.std.specs.Path.{path_parent};
 ghost use Rattle.stable_record.specs.Crash.{CutOrNot, Torn};
@@ -32,11 +32,11 @@ const NOT_WRITTEN: u64 = 6;
 
 const NOT_CUT: u64 = 7;
 
-/// A file of the operating system. What contracts say of its bytes, and of what a crash leaves,
-/// holds as long as each read so far gave what the history says. The history begins with the past
-/// that the file is opened with. A write or cut that failed is part of it, with what it left. That
-/// is known by reads alone, so the past says it beforehand: clauses hold for each past, and
-/// whatever the device leaves, there is one that says so.
+/// A file of the operating system. What contracts say about its bytes, and about what a crash
+/// leaves, holds as long as each read returned what the history says. The history begins with the
+/// past with which the file was opened. The outcome of a write or cut that failed can only be
+/// learned from later reads. So contracts are stated for every possible past, and some past
+/// predicts whatever the device actually did: it is a prophecy variable.
 #[derive(Drop)]
 pub struct FileDisk {
     file: File,
@@ -48,9 +48,9 @@ pub struct FileDisk {
 impl FileDisk {
     ghost use Rattle.stable_record.specs.RealFile.{file_agrees, file_history, file_past};
 
-    /// Opens the file at a path to read and write it, and makes an empty one where there is none.
-    /// It then syncs the folder, so that a crash doesn't take a new file away, and fails where that
-    /// can't be done. It has no contract: std's call to open a file says nothing of what it gives.
+    /// Opens the file at a path for reading and writing, and creates it empty if it doesn't exist.
+    /// Then syncs the folder, so that a crash doesn't remove a new file; fails if that fails. It
+    /// has no contract, because std's call to open a file has none about the file's bytes.
     pub fn open_file(rt: &HostRuntime, path: &str) -> io::Result<File> {
         let mut options = OpenOptions::new();
         options.read(true).write(true).create(true);
@@ -59,8 +59,8 @@ impl FileDisk {
         Ok(file)
     }
 
-    /// A disk over an open file with a past, which clauses alone see: what is known of the file,
-    /// and of what a crash leaves of it. Once a read doesn't fit it, nothing more is claimed.
+    /// A disk over an open file with a past, which only contracts see: what is known of the file,
+    /// and of what a crash leaves of it. Once a read contradicts the past, nothing more is claimed.
     pub fn new(file: File) -> FileDisk
         ghost past: { Past }
         ensures past { file_past result ≡ past }
@@ -68,7 +68,7 @@ impl FileDisk {
         ensures kept { file_agrees result }
         ensures no_failure { result.failures ≡ 0 }
 
-        // Whatever a write or cut leaves that fails, there is a past that says so.
+        // Whatever a failed write or cut leaves, some past predicts it.
         ensures torn_writes { TornWritesAreForetold }
         ensures torn_cuts { TornCutsAreForetold }
     {
@@ -79,7 +79,7 @@ impl FileDisk {
         }
     }
 
-    /// A failure of the device more.
+    /// Counts a failure of the device.
     fn failed(&mut self) -> DiskFault
         ensures fault { result ≡ DiskFault.Device }
         ensures counted { self.new.failures ≡ one_more self.old.failures }
@@ -90,7 +90,7 @@ impl FileDisk {
     }
 }
 
-/// The folder that the last name of a path stands in.
+/// The folder that contains the last component of a path.
 fn folder_of(path: &str) -> &str
     ensures { IfSome (path_parent path.now) (λ folder. folder ≢ [] → result.now ≡ folder) }
 {
@@ -119,7 +119,7 @@ fn read_full(file: &File, at: u64, buf: &mut [u8]) -> io::Result<usize>
     Ok(done)
 }
 
-/// Cuts the file, unless it is no longer than that.
+/// Truncates the file if it is longer than that.
 fn cut_file(file: &File, len: u64) -> io::Result<()> {
     if file.metadata()?.len() > len {
         file.set_len(len)?;
@@ -171,7 +171,7 @@ impl Disk for FileDisk {
         ensures room { at ≤ length (seen (file_history self.old))
             → UsesRoom (length bytes.now) file_room file_room result }
 
-        // A write that failed is among the calls, and left a file that is torn.
+        // A write that failed is in the history, and left a torn file.
         ensures failed { IsErrOf result DiskFault.Device
             → (file_history self.new ≡ written at (length bytes.now)
             (after_failed_write self.old at (length bytes.now)) ∷ file_history self.old)
@@ -198,7 +198,7 @@ impl Disk for FileDisk {
         ensures cause { self.new.failures ≡ counted result self.old.failures }
         ensures room { UsesRoom 0 file_room file_room result }
 
-        // A cut that failed is among the calls, and was done or not.
+        // A cut that failed is in the history, and was done or not done.
         ensures failed { IsErrOf result DiskFault.Device
             → (file_history self.new ≡ cut_to len (after_failed_cut self.old len)
             ∷ file_history self.old)

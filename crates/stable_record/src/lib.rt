@@ -1,5 +1,5 @@
-//! A log of notes in one file, each on the disk before it is acknowledged, and the disks that it
-//! stands on.
+//! A log of notes in one file, in which each note is on the disk before it is acknowledged; and the
+//! disks for it.
 #![tactic(auto)]
 
 mod disk;

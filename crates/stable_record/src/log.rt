@@ -1,5 +1,5 @@
-//! Notes behind gates. The closed gate is on the disk before anything is written behind it, and is
-//! opened by a write of its own, once what stands behind it is on the disk.
+//! Notes after gates. The closed gate is on the disk before anything is written after it. It is
+//! opened by a separate write, once what comes after it is on the disk.
 ghost use Rattle.std.specs.Prelude.{◌≡◌, ◌<◌, ◌≤◌, ◌↔◌, ◌+◌, ◌^◌, ◌∷◌, [], ◌++◌, ◌⊎◌};
 ghost use Rattle.std.specs.Prelude.{List, length, IsErrOf, IfOk, IsTrue, OnOk, OnErr, false, true};
 ghost use Rattle.stable_record.specs.Crash.{AllAlong};
@@ -22,9 +22,9 @@ pub struct Log<D> {
     pub(crate) alloc: Global,
     pub(crate) disk: D,
     pub(crate) identity: Identity,
-    /// Where the closed gate stands.
+    /// The position of the closed gate.
     pub(crate) end: u64,
-    /// The device failed in `append`.
+    /// Whether the device failed in `append`.
     pub(crate) stopped: bool,
     ghost end_fits: { end + 1 < 2 ^ 64 },
 }
@@ -32,31 +32,30 @@ pub struct Log<D> {
 impl<D: Disk> Log<D> {
     ghost use Rattle.stable_record.specs.OpenLog.{Holds, WouldPassLimit, file_len};
 
-    /// Adds a note. At `Ok` it is on the disk, so that each crash leaves it from then on. After
-    /// `Device` a crash leaves the notes from before, with the new one or without, and each further
-    /// call is `MustReopen`. `Full` and `Memory` change nothing.
+    /// Appends a note. On `Ok` it is on the disk, and each crash leaves it from then on. After
+    /// `Device` a crash leaves the earlier notes, with or without the new one, and each later call
+    /// returns `MustReopen`. `Full` and `Memory` change nothing.
     pub fn append(&mut self, note: &[u8]) -> Result<(), LogFault>
         ensures acknowledged { D.is_kept self.new.disk → (notes : List Note)
             → Holds D.history self.old notes
             → OnOk result (Holds D.history self.new (notes ++ note.now ∷ [])) }
 
-        // A crash at any moment of the call leaves the notes from before it, with the new one or
-        // without.
+        // A crash at any point of the call leaves the earlier notes, with or without the new one.
         ensures any_moment { D.is_kept self.new.disk → (notes : List Note)
             → Holds D.history self.old notes
             → AllAlong (HasBeforeOrAfter self.old.identity notes note.now) (D.history self.old.disk)
             (D.history self.new.disk) }
 
-        // What was said of the disk before still stands, so that calls can follow one another.
+        // What was known of the disk before still holds, so that calls can follow one another.
         ensures kept { D.is_kept self.new.disk → D.is_kept self.old.disk }
         ensures later { D.failures_of self.old.disk ≤ D.failures_of self.new.disk }
         ensures owner { self.new.identity ≡ self.old.identity }
 
-        // Where the log ends.
+        // The end of the log.
         ensures end { OnOk result (self.new.end ≡ self.old.end + 5 + length note.now) }
         ensures same_end { OnErr result (self.new.end ≡ self.old.end) }
 
-        // It is full just where the file would get too long.
+        // It is full if and only if the file would become too long.
         ensures full { IsErrOf result LogFault.Full
             ↔ (self.old.stopped ≡ false) × WouldPassLimit self.old note.now }
         ensures within { OnOk result (file_len self.old + 5 + length note.now ≤ most_bytes) }
@@ -68,15 +67,14 @@ impl<D: Disk> Log<D> {
         ensures no_opening { IsErrOf result LogFault.NotALog ⊎ IsErrOf result LogFault.OtherCluster
             → ⊥ }
 
-        // After a failure of the device, and of nothing else, it goes on only once it was opened
-        // again.
+        // After a failure of the device, and only then, the log must be reopened.
         ensures stops { IsErrOf result LogFault.Device → self.new.stopped ≡ true }
         ensures goes_on { self.new.stopped ≡ true
             → self.old.stopped ≡ true ⊎ IsErrOf result LogFault.Device }
         ensures must_reopen { self.old.stopped ≡ true
             → IsErrOf result LogFault.MustReopen × (self.new ≡ self.old) }
 
-        // Where memory was wanting or the log is full, nothing happened.
+        // If memory ran out or the log is full, nothing happened.
         ensures refused { D.is_kept self.new.disk → (notes : List Note)
             → Holds D.history self.old notes
             → IsErrOf result LogFault.Memory ⊎ IsErrOf result LogFault.Full
@@ -106,14 +104,14 @@ impl<D: Disk> Log<D> {
         self.end + 1
     }
 
-    /// The disk that the log stands on.
+    /// The log's disk.
     pub fn disk(&self) -> &D
         ensures { result.now ≡ self.now.disk }
     {
         &self.disk
     }
 
-    /// The disk that the log stands on, as it is.
+    /// Returns the log's disk, unchanged.
     pub fn into_disk(self) -> D
         ensures { result ≡ self.disk }
     {
@@ -121,7 +119,7 @@ impl<D: Disk> Log<D> {
     }
 }
 
-/// Whether a note of this length fits behind the closed gate at a place.
+/// Whether a note of this length fits after the closed gate at a position.
 fn has_room(end: u64, len: u64) -> bool
     ensures { IsTrue result ↔ (end + 6 + len ≤ most_bytes) }
 {
@@ -140,7 +138,7 @@ fn behind_the_gate(alloc: Global, note: &[u8]) -> Result<Vec<u8>, Memory>
     Ok(bytes)
 }
 
-/// Writes a note behind the closed gate at a place and opens the gate, once there is room for it.
+/// Reserves room, then writes a note after the closed gate at a position and opens the gate.
 fn add_note<D: Disk>(alloc: Global, disk: &mut D, gate: u64, note: &[u8]) -> Result<(), DiskFault>
     requires { gate + 6 + length note.now ≤ MAX_LEN }
 
@@ -166,7 +164,7 @@ fn add_note<D: Disk>(alloc: Global, disk: &mut D, gate: u64, note: &[u8]) -> Res
     write_note(disk, gate, &bytes)
 }
 
-/// Writes a note behind the closed gate at a place, and opens the gate.
+/// Writes a note after the closed gate at a position, and opens the gate.
 fn write_note<D: Disk>(disk: &mut D, gate: u64, bytes: &[u8]) -> Result<(), DiskFault>
     requires { gate ≤ MAX_LEN }
 

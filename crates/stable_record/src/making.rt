@@ -1,5 +1,5 @@
-//! Making a log in a file that counts as nothing, so that what a crash leaves of it counts as
-//! nothing still.
+//! Creates a log in a file that counts as blank. Whatever a crash leaves of it counts as blank,
+//! too.
 ghost use Rattle.std.specs.Prelude.{◌≡◌, ◌≤◌, ◌<◌, ◌+◌, ◌^◌, ◌∷◌, [], ◌++◌, length, IsErrOf, IfOk, OnOk};
 ghost use Rattle.stable_record.specs.Crash.{IsOnDisk};
 ghost use Rattle.stable_record.specs.Faults.{HasRisen};
@@ -11,7 +11,7 @@ ghost use Rattle.stable_record.specs.inside.Reading.{StaysAs};
 use crate::down::{cut_down, write_down};
 use crate::{Disk, DiskFault, Identity};
 
-/// Makes a log without notes, and gives the place of its closed gate.
+/// Creates a log without notes, and returns the position of its closed gate.
 pub(crate) fn make<D: Disk>(disk: &mut D, owner: Vec<u8>) -> Result<u64, DiskFault>
     ensures any_moment { D.is_kept disk.new → (i : Identity) → owner.items ≡ header i
         → IsOnDisk (D.history disk.old) → IsBlank i (seen (D.history disk.old))
@@ -33,7 +33,7 @@ pub(crate) fn make<D: Disk>(disk: &mut D, owner: Vec<u8>) -> Result<u64, DiskFau
     Ok(place)
 }
 
-/// Leaves nothing of the file but one closed gate.
+/// Replaces the contents of the file by one closed gate.
 fn begin<D: Disk>(disk: &mut D) -> Result<(), DiskFault>
     ensures any_moment { D.is_kept disk.new → (i : Identity) → IsOnDisk (D.history disk.old)
         → IsBlank i (seen (D.history disk.old))
@@ -50,7 +50,7 @@ fn begin<D: Disk>(disk: &mut D) -> Result<(), DiskFault>
     write_down(disk, 0, &[0])
 }
 
-/// Writes the header with a closed gate behind it, and opens the gate in front of it.
+/// Writes the header and a closed gate after it, and opens the gate in front of it.
 fn finish<D: Disk>(disk: &mut D, bytes: &[u8]) -> Result<(), DiskFault>
     ensures any_moment { D.is_kept disk.new → (i : Identity)
         → bytes.now ≡ header i ++ closed_gate ∷ []

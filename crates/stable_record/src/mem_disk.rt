@@ -27,23 +27,23 @@ const SYNCED: u64 = 3;
 pub enum Left {
     /// Unsynced writes and cuts are undone.
     Before,
-    /// They stand.
+    /// Unsynced writes and cuts survive.
     Written,
-    /// They stand, with this byte in every unsynced place.
+    /// Unsynced writes and cuts survive, with this byte in every unsynced place.
     Fill(u8),
 }
 
-/// A file in memory, and what a crash would leave of it. Its device never fails. A write that would
-/// end past 2^64 is refused as `Memory`, like one that the allocator has no room for: no file in
-/// memory is that long.
+/// A file in memory, with what a crash would leave of it. Its device never fails. A write that
+/// would end past 2^64 is refused with `Memory`, like one for which there is not enough memory: a
+/// file in memory cannot be that long.
 #[derive(Drop)]
 pub struct MemDisk {
     file: Vec<u8>,
-    /// Before this place nothing was changed since the last sync.
+    /// Nothing before this place changed since the last sync.
     unchanged: usize,
     /// What the disk has from there on.
     before: Vec<u8>,
-    /// Where the ranges begin that were written since then, and how many bytes each has.
+    /// The start and length of each range that was written since the last sync.
     ranges: Vec<(usize, usize)>,
     noted: Record,
     ghost file_is: { file.items ≡ seen (replay no_past noted.events) },
@@ -77,7 +77,7 @@ impl MemDisk {
         })
     }
 
-    /// What a read gives.
+    /// What a read returns.
     pub fn bytes(&self) -> &[u8]
         ensures { result.now ≡ seen (mem_history self.now) }
     {
@@ -88,7 +88,7 @@ impl MemDisk {
 impl MemDisk {
     ghost use Rattle.stable_record.specs.InMemory.{mem_history};
 
-    /// The disk after a crash, which left the file as told, all of it on the disk.
+    /// The disk after a crash that left the file as `left` says, all of it on the disk.
     pub fn crash(self, left: Left) -> MemDisk
         ensures left { mem_history result ≡ after_crash left (mem_history self) }
         ensures possible { MayLeave (mem_history self) (left_file left (mem_history self)) }
@@ -123,7 +123,7 @@ impl MemDisk {
 }
 
 impl MemDisk {
-    /// Makes room for a file that ends here, and for one range more.
+    /// Makes room for a file that ends here, and for one more range.
     fn make_room(&mut self, end: usize) -> Result<(), Memory>
         ensures same { (self.new.noted ≡ self.old.noted)
             × (self.new.unchanged ≡ self.old.unchanged) }
@@ -147,7 +147,7 @@ impl MemDisk {
         Ok(())
     }
 
-    /// Keeps what the disk has from the place on, before that is changed.
+    /// Saves what the disk has from the place on, before that is changed.
     fn keep_from(&mut self, place: usize)
         ensures same { (self.new.noted ≡ self.old.noted) × (self.new.file ≡ self.old.file)
             × (self.new.ranges ≡ self.old.ranges) }
@@ -163,9 +163,9 @@ impl MemDisk {
     }
 }
 
-/// Makes room for this many bytes in all, or more at once where there is to be more. Where no byte
-/// is kept the room is another, of which nothing was touched: a system gives pages as they are
-/// written, and what grows is copied with the room that it had.
+/// Makes room for `least` bytes in total. If nothing has to be kept, this allocates anew, for
+/// `wanted` bytes at once if that is more. Growing would copy the unused capacity too, and touch
+/// its pages.
 fn widen(bytes: &mut Vec<u8>, least: usize, wanted: usize) -> Result<(), Memory>
     ensures items { bytes.new.items ≡ bytes.old.items }
     ensures room { OnOk result (least ≤ vec_capacity bytes.new) }
@@ -184,7 +184,7 @@ fn widen(bytes: &mut Vec<u8>, least: usize, wanted: usize) -> Result<(), Memory>
     Ok(())
 }
 
-/// Puts a byte in each place of some ranges.
+/// Writes a byte everywhere in these ranges.
 fn fill(file: &mut Vec<u8>, ranges: &[(usize, usize)], byte: u8)
     ensures items { file.new.items ≡ filled byte ranges.now file.old.items }
     ensures is_byte { byte < 256 }
@@ -196,7 +196,7 @@ fn fill(file: &mut Vec<u8>, ranges: &[(usize, usize)], byte: u8)
     }
 }
 
-/// Puts a byte in each place of a range: where it begins and how many bytes it has.
+/// Writes a byte everywhere in a range, given by its start and its length.
 fn fill_range(file: &mut Vec<u8>, range: (usize, usize), byte: u8)
     ensures items { file.new.items ≡ blanked byte range file.old.items }
     ensures len { length file.new.items ≡ length file.old.items }
@@ -208,7 +208,7 @@ fn fill_range(file: &mut Vec<u8>, range: (usize, usize), byte: u8)
     file[start..end].fill(byte);
 }
 
-/// Puts bytes at a place, and zeros between the end and the place.
+/// Writes bytes at a place, with zeros between the end and the place.
 fn overwrite(file: &mut Vec<u8>, at: usize, bytes: &[u8])
     requires far { at + length bytes.now < 2 ^ 64 }
     requires room { at + length bytes.now ≤ vec_capacity file.old }
@@ -222,7 +222,7 @@ fn overwrite(file: &mut Vec<u8>, at: usize, bytes: &[u8])
     put(file, at, bytes);
 }
 
-/// Puts zeros at the end, up to a place.
+/// Appends zeros up to a place.
 fn reach(file: &mut Vec<u8>, at: usize)
     requires room { at ≤ vec_capacity file.old }
     ensures items { file.new.items ≡ file.old.items ++ replicate (at - length file.old.items) 0 }
@@ -233,7 +233,7 @@ fn reach(file: &mut Vec<u8>, at: usize)
     }
 }
 
-/// Puts bytes at a place up to the end.
+/// Writes bytes at a place up to the end, overwriting and extending the file.
 fn put(file: &mut Vec<u8>, at: usize, bytes: &[u8])
     requires within { at ≤ length file.old.items }
     requires far { at + length bytes.now < 2 ^ 64 }

@@ -16,16 +16,16 @@ use crate::{Disk, DiskFault, Identity, Log, LogFault};
 use std::alloc::Global;
 
 impl<D: Disk> Log<D> {
-    /// Opens a file that a crash may have left, repairs its end, and gives its notes in order. Of
-    /// an empty file, or of one whose making a crash broke off, it makes a log. A crash may come at
-    /// any moment of it. An `Err` hands the disk back, and `NotALog` and `OtherCluster` leave the
-    /// file as it is.
+    /// Opens a file that a crash may have left, repairs its end, and returns its notes in order. In
+    /// an empty file, or in one whose creation was interrupted by a crash, it creates a log. A
+    /// crash may come at any point. `Err` returns the disk, and with `NotALog` and `OtherCluster`
+    /// the file is unchanged.
     pub fn open(
         alloc: Global,
         disk: D,
         identity: &Identity,
     ) -> Result<(Log<D>, Vec<Vec<u8>>), (LogFault, D)>
-        // What is read is what the file's notes are, and they are on the disk.
+        // The result is the file's notes, and they are on the disk.
         ensures notes { IfOk result
             (λ r. D.is_kept r.0.disk
             → Opens identity.now (seen (D.history disk)) (Ok (map note_of r.1.items))) }
@@ -33,20 +33,20 @@ impl<D: Disk> Log<D> {
             (λ r. D.is_kept r.0.disk → Holds D.history r.0 (map note_of r.1.items)) }
         ensures owner { IfOk result (λ r. r.0.identity ≡ identity.now) }
 
-        // It takes notes, behind those.
+        // It accepts appends, after these notes.
         ensures end { IfOk result (λ r. r.0.end ≡ gate_place identity.now (map note_of r.1.items)) }
         ensures takes_notes { IfOk result (λ r. r.0.stopped ≡ false) }
 
-        // What was said of the disk before still stands.
+        // What was known of the disk before still holds.
         ensures kept { MatchResult result (λ r. D.is_kept r.0.disk → D.is_kept disk)
             (λ e. D.is_kept e.1 → D.is_kept disk) }
         ensures later { MatchResult result (λ r. D.failures_of disk ≤ D.failures_of r.0.disk)
             (λ e. D.failures_of disk ≤ D.failures_of e.1) }
 
-        // A file of bytes has one answer.
+        // Opening a file of bytes has exactly one answer.
         ensures one_answer { HasOneAnswer identity.now }
 
-        // A crash at any moment leaves notes that a crash at the start could leave.
+        // A crash at any point leaves notes that a crash at the start could have left.
         ensures any_moment { IfOk result (λ r. D.is_kept r.0.disk
             → AllAlong (OpensAsLeft identity.now (D.history disk)) (D.history disk)
             (D.history r.0.disk)) }
@@ -54,7 +54,7 @@ impl<D: Disk> Log<D> {
             → AllAlong (OpensAsLeft identity.now (D.history disk)) (D.history disk)
             (D.history e.1)) }
 
-        // A file that is no log of this member is left as it is.
+        // A file that is not a log of this member stays unchanged.
         ensures refused { IfErr result (λ e. D.is_kept e.1
             → e.0 ≡ LogFault.NotALog ⊎ (e.0 ≡ LogFault.OtherCluster)
             → Opens identity.now (seen (D.history disk)) (Err e.0)
@@ -83,8 +83,8 @@ impl<D: Disk> Log<D> {
     }
 }
 
-/// Makes the file ready for notes, and gives those that it has and the place of the closed gate
-/// behind them.
+/// Makes the file ready for appends. Returns its notes, and the position of the closed gate after
+/// them.
 fn ready<D: Disk>(
     alloc: Global,
     disk: &mut D,
@@ -126,8 +126,8 @@ fn ready<D: Disk>(
     }
 }
 
-/// The file's bytes, once they are on the disk. What is read is to stay, also where an earlier sync
-/// failed and no crash came since.
+/// Syncs the file, then returns its bytes. So what was read stays, even if an earlier sync failed
+/// and no crash came since.
 fn synced_bytes<D: Disk>(alloc: Global, disk: &mut D) -> Result<Vec<u8>, DiskFault>
     ensures bytes { D.is_kept disk.new
         → IfOk result (λ bytes. bytes.items ≡ seen (D.history disk.old)) }
@@ -146,7 +146,7 @@ fn synced_bytes<D: Disk>(alloc: Global, disk: &mut D) -> Result<Vec<u8>, DiskFau
     read_all(alloc, disk)
 }
 
-/// Cuts off what stands behind the closed gate at a place.
+/// Cuts off what comes after the closed gate at a position.
 fn trim<D: Disk>(disk: &mut D, end: u64, len: u64) -> Result<(), DiskFault>
     ensures any_moment { D.is_kept disk.new → (i : Identity) (notes : List Note)
         → IsOnDisk (D.history disk.old)

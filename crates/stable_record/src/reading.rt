@@ -1,4 +1,4 @@
-//! What the bytes of a file are opened as.
+//! What opening the bytes of a file returns.
 ghost use Rattle.std.specs.Prelude.{◌≡◌, ◌⊎◌, ◌≤◌, ◌↔◌, ◌∷◌, length, take, IfOk, IfErr, IsErrOf, IsTrue, Err};
 ghost use Rattle.stable_record.specs.Faults.{HasRisen};
 ghost use Rattle.stable_record.specs.History.{seen};
@@ -17,29 +17,29 @@ const OPEN: u8 = 1;
 /// The length of a log without notes, and without weights.
 const SHORTEST: usize = 44;
 
-/// Where the number of members stands.
+/// The position of the number of members.
 const COUNT_PLACE: usize = 41;
 
 /// What a file is opened as.
 #[derive(Drop)]
 pub(crate) enum Opening {
-    /// A log is to be made.
+    /// A log must be created.
     Blank,
-    /// The notes, and the place of the closed gate behind them.
+    /// The notes, and the position of the closed gate after them.
     Notes(Vec<Vec<u8>>, usize),
 }
 
-/// What stands at a gate.
+/// What is found at a gate.
 enum AtGate<'a> {
     /// The gate is closed.
     Closed,
-    /// It is open. The note behind it, and what begins with the next gate.
+    /// The gate is open: the note after it, and the bytes from the next gate on.
     Note(&'a [u8], &'a [u8]),
-    /// There is no gate, or what is behind it isn't whole.
+    /// There is no gate, or what comes after it is incomplete.
     CutShort,
 }
 
-/// All the bytes of the file.
+/// Reads the whole file.
 pub(crate) fn read_all<D: Disk>(alloc: Global, disk: &mut D) -> Result<Vec<u8>, DiskFault>
     ensures kept { D.is_kept disk.new → D.is_kept disk.old }
     ensures same { D.is_kept disk.new → D.history disk.new ≡ D.history disk.old }
@@ -56,7 +56,7 @@ pub(crate) fn read_all<D: Disk>(alloc: Global, disk: &mut D) -> Result<Vec<u8>, 
     Ok(bytes)
 }
 
-/// What the bytes of a file are opened as.
+/// What opening the bytes of a file returns.
 pub(crate) fn opening_of(
     alloc: Global,
     file: &[u8],
@@ -84,8 +84,8 @@ pub(crate) fn opening_of(
     notes_behind(alloc, file, size + 1)
 }
 
-/// A crash may have left this of a log in making, which without notes has so many bytes and this
-/// magic.
+/// Whether a crash may have left these bytes while a log was being created that has this length
+/// without notes, and this magic.
 fn is_blank(file: &[u8], len: usize, own_magic: &[u8]) -> bool
     requires { length own_magic.now ≡ 8 }
     ensures { (i : Identity) → len ≡ shortest i → own_magic.now ≡ magic i → IsTrue result
@@ -97,7 +97,7 @@ fn is_blank(file: &[u8], len: usize, own_magic: &[u8]) -> bool
     file[0] != OPEN && file.len() == len && begins_with(&file[1..], own_magic)
 }
 
-/// It is a log, whoever owns it.
+/// Whether it is a log, of any owner.
 fn is_log(file: &[u8]) -> bool
     ensures { IsTrue result ↔ IsLog file.now }
 {
@@ -106,7 +106,7 @@ fn is_log(file: &[u8]) -> bool
         && (begins_with(&file[1..], MAGIC) || begins_with(&file[1..], WEIGHTED_MAGIC))
 }
 
-/// It tells of weights, and there are not as many bytes.
+/// Whether it is a log with weights, but too short to have them all.
 fn lacks_weights(file: &[u8]) -> bool
     requires { 44 ≤ length file.now }
     ensures { IsTrue result ↔ LacksWeights file.now }
@@ -120,7 +120,7 @@ fn begins_with(bytes: &[u8], front: &[u8]) -> bool
     bytes.starts_with(front)
 }
 
-/// The notes behind the gates from this place on.
+/// The notes after the gates from this position on.
 fn notes_behind(alloc: Global, file: &[u8], first: usize) -> Result<Opening, LogFault>
     requires { first ≤ length file.now }
     ensures ok { IfOk result
@@ -143,7 +143,7 @@ fn notes_behind(alloc: Global, file: &[u8], first: usize) -> Result<Opening, Log
     }
 }
 
-/// What stands at the gate that these bytes begin with.
+/// What is found at the gate with which these bytes begin.
 fn at_gate(file: &[u8]) -> AtGate<'_>
     ensures { StandsAt file.now result }
 {

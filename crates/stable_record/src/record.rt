@@ -1,4 +1,4 @@
-//! A list of calls that only clauses read.
+//! A list of calls that only contracts read.
 ghost use Rattle.std.specs.Prelude.{◌≡◌, ℕ, List, [], ◌∷◌};
 ghost use Rattle.std.specs.Borrow.{ftrue};
 ghost use Rattle.stable_record.specs.Events.{Event, Past};
@@ -29,7 +29,7 @@ impl Record {
         }
     }
 
-    /// Notes a call: its kind and its numbers, and its bytes.
+    /// Records a call: its kind and its numbers, and its bytes.
     pub(crate) fn note(&mut self, _numbers: &[u64], _bytes: &[u8])
         ensures { (self.new.past ≡ self.old.past)
             × (self.new.events ≡ event_of _numbers.now _bytes.now ∷ self.old.events) }

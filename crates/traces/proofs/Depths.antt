@@ -1,9 +1,9 @@
--- What is written has no float, and nests little.
+-- What is written has no float, and isn't nested deeply.
 use Rattle.std.proofs.Common.{◌≡◌, ℕ, ◌≤◌, List, [], ◌∷◌, map, All, Bool, true, false, Option, None, Some, refl, arith}
 use Rattle.std.proofs.lemmas.List.Elements.{All-head, All-tail}
-use Rattle.events.specs.Events.{Event, Claim, Built, Failed, Nudge, Ask, Deliver, Stop, StopIn, Restart, is_step}
-use Rattle.events.specs.declared.event.Left.{Left}
-use Rattle.events.specs.declared.event.Left.TheVariants as left
+use Rattle.protocol.specs.Events.{Event, Claim, Built, Failed, Nudge, Ask, Deliver, Stop, StopIn, Restart, is_step}
+use Rattle.protocol.specs.declared.event.Left.{Left}
+use Rattle.protocol.specs.declared.event.Left.TheVariants as left
 use Rattle.faults.specs.Bytes.{Text}
 use Rattle.package_record.specs.Content.{NamedFile}
 use Rattle.protocol.specs.Given.{Given}
@@ -58,7 +58,7 @@ trace_by t false is = rw is (rw (no_float_among event_data event_no_float t.even
 pub trace_no_float : (t : Trace) → has_float (trace_data t) ≡ false
 trace_no_float t = trace_by t (are_ones t.weights) refl
 
--- ---- how deep it nests
+-- ---- nesting
 
 deep_among : {X : Type 0} (write : X → Data) (P : X → Type 0) (n : ℕ) → ((x : X) → P x → depth (write x) ≤ n) → (xs : List X) → All P xs → items_depth (items_of (map write xs)) ≤ n
 deep_among write P n each [] are = omega arith

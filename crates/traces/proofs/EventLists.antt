@@ -1,6 +1,6 @@
--- Events that are read item by item.
+-- Events that are parsed item by item.
 use Rattle.std.proofs.Common.{◌≡◌, ℕ, ◌-◌, ◌<◌, ◌≤◌, List, length, map, Option, None, Some, Result, Ok, refl, ap, ◌∙◌, append-nil}
-use Rattle.events.specs.Events.{Event, event_view}
+use Rattle.protocol.specs.Events.{Event, event_view}
 use Rattle.json.specs.Token.{Token}
 use Rattle.json.specs.Json as json
 use Rattle.json.specs.Json.{Parse, after_end_array, items, parse_map}
@@ -12,7 +12,7 @@ use Rattle.traces.specs.declared.listed.Listed.TheVariants.{Events, BadAt}
 use Rattle.traces.specs.inside.Listing.{answer, answer_behind}
 use Rattle.traces.proofs.Turns.{item_read, items_over}
 
--- no items are to come
+-- no items are left
 pub answer_over : (listed : Listed) → answer_behind listed no_items ≡ answer listed
 answer_over (Events events) = ap Ok (append-nil (map event_view events.items))
 answer_over (BadAt place) = refl
@@ -25,7 +25,7 @@ abbrev pick : {A : Type 0} → A → Option A → A
 pick d None = d
 pick d (Some a) = a
 
--- what was read under a function
+-- the value that was parsed, before a function is applied
 pub read_under : {A B : Type 0} (f : A → B) (o : Option (A × List Token)) (b : B) (r : List Token) → parse_map f o ≡ Some (b, r) → (a : A) × (o ≡ Some (a, r)) × (f a ≡ b)
 read_under f None b r e = absurd (cc)
 read_under f (Some p) b r e = let same = ap (pick (f p.0, p.1)) e in (p.0, ap (λ q. Some (p.0, q.1)) same, ap (λ q. q.0) same)
@@ -35,7 +35,7 @@ none_under f None e = refl
 none_under f (Some p) e = absurd (cc)
 
 module _ (p : Parse json.Json) (all : Option (Result (List Event) Place × List Token)) where
-  -- an item more
+  -- one more item
   pub listing_more : (n : ℕ) (ts r : List Token) (d : Data) (before after : Listed) → 0 < n → after_end_array ts ≡ None → converted of_json (p ts) ≡ Some (d, r)
       → ((rest : Items) → answer_behind before (item d rest) ≡ answer_behind after rest)
       → all ≡ parse_map (answer_behind before) (converted of_items (items p n ts)) → all ≡ parse_map (answer_behind after) (converted of_items (items p (n - 1) r))

@@ -1,7 +1,7 @@
--- Traces, read and written, by computation.
+-- Traces, parsed and written, by computation.
 use Rattle.std.specs.Prelude.{◌≡◌, [], ◌∷◌, None, Ok, Err, codes, refl}
-use Rattle.events.specs.Events.{Deliver, Nudge, Restart, StopIn}
-use Rattle.events.specs.declared.event.Left.TheVariants as left
+use Rattle.protocol.specs.Events.{Deliver, Nudge, Restart, StopIn}
+use Rattle.protocol.specs.declared.event.Left.TheVariants as left
 use Rattle.traces.specs.Events.{clean_stop_in, deliver_in, event_in, node_alone_in}
 use Rattle.traces.specs.Fields.{number_of}
 use Rattle.traces.specs.Trace.{Trace, equals_in, outer_in, trace_from, weighted_in}
@@ -11,7 +11,7 @@ use Rattle.traces.specs.Written.{event_data, fields, list_data, natural, trace_d
 abbrev restarts : Trace
 restarts = record { weights = 1 ∷ 1 ∷ 1 ∷ []; events = Restart 0 ∷ [] }
 
--- what is written is read again
+-- what is written is parsed again
 restarts_again : trace_from (outer_in (trace_data restarts)) ≡ Ok restarts
 unfolding equals_in number_of node_alone_in
 restarts_again = refl
@@ -25,7 +25,7 @@ weighted_again : trace_from (outer_in (trace_data weighted)) ≡ Ok weighted
 unfolding weighted_in number_of node_alone_in deliver_in clean_stop_in
 weighted_again = refl
 
--- ten members are none, and so is a member too many in the outer object
+-- ten members are invalid, and so is an extra member of the outer object
 ten_members : trace_from (outer_in (fields ((codes "events", list_data [])
     ∷ (codes "members", natural 10) ∷ []))) ≡ Err 0
 unfolding equals_in number_of
@@ -36,7 +36,7 @@ one_more_member : trace_from (outer_in (fields ((codes "events", list_data [])
 unfolding equals_in number_of
 one_more_member = refl
 
--- the number of a node past its 8 bits, in the second event
+-- the number of a node above 8 bits, in the second event
 late_node : trace_from (outer_in (fields ((
   codes "events",
   list_data (event_data (Restart 0)
@@ -45,14 +45,14 @@ late_node : trace_from (outer_in (fields ((
 unfolding equals_in number_of node_alone_in
 late_node = refl
 
--- a table of ones has no member `weights`
+-- weights that are all 1 must not be written
 ones_written : trace_from (outer_in (fields ((codes "events", list_data [])
     ∷ (codes "members", natural 2) ∷ (codes "weights", list_data (natural 1 ∷ natural 1 ∷ []))
     ∷ []))) ≡ Err 0
 unfolding weighted_in number_of
 ones_written = refl
 
--- a stop inside a restart is none
+-- a stop inside a restart is invalid
 stop_in_restart : event_in (event_data (StopIn (Restart 0) left.None)) ≡ None
 unfolding clean_stop_in node_alone_in number_of
 stop_in_restart = refl

@@ -1,4 +1,5 @@
--- What is kept of members is found as in the members themselves, the events' items aside.
+-- Looking up what is kept of members, compared with the members themselves, except for the events'
+-- items.
 use Rattle.std.proofs.Common.{◌≡◌, ◌<◌, ℕ, suc, List, length, subst, Option, Some, option_map, true, false, codes, Ordering, Less, Equal, Greater, nat_cmp, is_eq, bytes_eq, true≢false, refl, sym, ap, ◌∙◌}
 use Rattle.std.proofs.lemmas.Map.Text.{is_eq-slice_cmp}
 use Rattle.std.proofs.lemmas.Slice.Eq.{bytes_eq-Decides}
@@ -15,7 +16,7 @@ use Rattle.traces.specs.declared.listed.Listed.{Listed}
 use Rattle.serde_json.specs.Find.{as_array, get_member}
 use Rattle.traces.specs.inside.Kept.{Keeps, KeepsEvents, Lists, items_of, kept, kept_at, value_read}
 
--- keys that compare as equal are one
+-- keys that compare as equal are equal
 same_key : (k l : List ℕ) → slice_cmp nat_cmp k l ≡ Equal → k ≡ l
 same_key k l is = (bytes_eq-Decides k l).0 (sym (is_eq-slice_cmp k l) ∙ ap is_eq is)
 

@@ -1,4 +1,4 @@
--- A line feed behind a text changes none of its tokens, and so not what it is read as.
+-- A line feed after a text changes none of its tokens, and so not its value.
 use Rattle.std.proofs.Common.{◌≡◌, ℕ, zero, suc, ◌+◌, ◌-◌, Bool, true, false, cond, ◌&&◌, ◌||◌, ◌==◌, List, [], ◌∷◌, ◌++◌, length, take, drop, get_or, Option, Some, None, option_map, option_and_then, nat_lt, IsUtf8, subst, refl, sym, ap, ap₂, ◌∙◌, arith}
 use Rattle.std.proofs.Math.Seq.{drop-nil, get_or-append_seam, take-append_seam}
 use Rattle.std.proofs.lemmas.List.{length-append, take-append-le}
@@ -19,13 +19,13 @@ use Rattle.traces.specs.Builds.{builds_of, packages_of}
 use Rattle.traces.specs.Fields.{◌>>=◌}
 use Rattle.traces.specs.Trace.{outer_in, trace_from, trace_of, value_of}
 
--- the text and a line feed
+-- the text followed by a line feed
 abbrev fed : List ℕ → List ℕ
 fed t = t ++ 10 ∷ []
 
--- ---- parts of a number: each takes as many bytes
+-- ---- parts of a number: each takes the same number of bytes
 
--- where a test goes one way or the other, the same is left
+-- if both branches leave the same, so does the choice
 either : (b : Bool) (s t u v : Option (List ℕ)) → s ≡ option_map fed t → u ≡ option_map fed v → cond b s u ≡ option_map fed (cond b t v)
 either true s t u v first second = first
 either false s t u v first second = second
@@ -35,12 +35,12 @@ in_turn : (f : List ℕ → Option (List ℕ)) → ((t : List ℕ) → f (fed t)
 in_turn f same None = refl
 in_turn f same (Some t) = same t
 
--- as many digits stand in front
+-- the number of leading digits is the same
 digits_fed : (t : List ℕ) → prefix_len is_ascii_digit (fed t) ≡ prefix_len is_ascii_digit t
 digits_fed [] = refl
 digits_fed (x ∷ xs) = ap (λ n. cond (is_ascii_digit x) (1 + n) 0) (digits_fed xs)
 
--- what follows a digit and so many more
+-- what follows a digit and this number of bytes
 rest_at : (b : Bool) (x : ℕ) (xs : List ℕ) (n : ℕ) → drop n (fed xs) ≡ fed (drop n xs) → drop (cond b (1 + n) 0) (fed (x ∷ xs)) ≡ fed (drop (cond b (1 + n) 0) (x ∷ xs))
 rest_at true x xs n same = let e : 1 + n ≡ suc n = omega arith in rw e same
 rest_at false x xs n same = refl
@@ -56,7 +56,7 @@ after_digits_fed t =
     ap (λ n. cond (n == 0) None (Some (drop n (fed t)))) (digits_fed t)
     ∙ either (prefix_len is_ascii_digit t == 0) None None (Some (drop (prefix_len is_ascii_digit t) (fed t))) (Some (drop (prefix_len is_ascii_digit t) t)) refl (ap Some (rest_fed t))
 
--- a byte that may stand first
+-- an optional first byte
 skipped : (b : Bool) (x : ℕ) (xs : List ℕ) → cond b (drop 1 (fed (x ∷ xs))) (fed (x ∷ xs)) ≡ fed (cond b (drop 1 (x ∷ xs)) (x ∷ xs))
 skipped true x xs = refl
 skipped false x xs = refl
@@ -103,13 +103,13 @@ ends_fed : (t : List ℕ) → ends_word (fed t) ≡ ends_word t
 ends_fed [] = refl
 ends_fed (x ∷ xs) = refl
 
--- and so it does behind its first bytes, there or not
+-- also after its first bytes, whether they exist or not
 drop_ends_fed : (n : ℕ) (t : List ℕ) → ends_word (drop n (fed t)) ≡ ends_word (drop n t)
 drop_ends_fed zero t = ends_fed t
 drop_ends_fed (suc n) [] = ap ends_word (drop-nil n) ∙ sym (ap ends_word (drop-nil (suc n)))
 drop_ends_fed (suc n) (x ∷ xs) = drop_ends_fed n xs
 
--- so many bytes, but for those of the rest
+-- this number of bytes, without the rest
 taken : (t rest : List ℕ) → take (length (fed t) - length (fed rest)) (fed t) ≡ take (length t - length rest) t
 taken t rest =
     let n : length (fed t) - length (fed rest) ≡ length t - length rest = omega (arith, length-append t (10 ∷ []), length-append rest (10 ∷ [])) in
@@ -125,7 +125,7 @@ abbrev Feedless : List ℕ → Type 0
 Feedless [] = Unit
 Feedless (x ∷ xs) = ((x == 10) ≡ false) × Feedless xs
 
--- such a name stands in front as before
+-- such a name is at the front if it was before
 starts_fed : (t name : List ℕ) → Feedless name → starts_with nat_eq (fed t) name ≡ starts_with nat_eq t name
 starts_fed t [] none = refl
 starts_fed [] (n ∷ ns) none = rw none.0 refl
@@ -148,9 +148,9 @@ word_fed x xs =
     (ap₂ (λ a b. cond (x == 102) a b) (literal_fed ascii.false_text (boolean false) t (refl, (refl, (refl, (refl, (refl, tt))))))
     (ap₂ (λ a b. cond (x == 110) a b) (literal_fed ascii.null_text null t (refl, (refl, (refl, (refl, tt))))) (number_fed t)))
 
--- ---- what stands between quotes
+-- ---- what is between quotes
 
--- what goes on alike
+-- continuations that agree
 alike : {A B : Type 0} (f g : A → Option B) → ((a : A) → f a ≡ g a) → (o : Option A) → option_and_then f o ≡ option_and_then g o
 alike f g same None = refl
 alike f g same (Some a) = same a
@@ -162,25 +162,25 @@ fails_last true false c = refl
 fails_last true true false = refl
 fails_last true true true = refl
 
--- a line feed is no digit
+-- a line feed is not a digit
 unit_cut : (a b c : ℕ) → code_unit a b c 10 ≡ None
 unfolding code_unit
 unit_cut a b c = rw (fails_last (is_digit a 16) (is_digit b 16) (is_digit c 16)) refl
 
--- what the digits of a unit begin
+-- what the digits of a unit are followed by
 abbrev unit_read : List ℕ → ℕ → Option (List ℕ)
 unit_read xs u = cond (is_high_surrogate u) (content (after_high u) xs) (cond (is_low_surrogate u) None (prepend (encode_utf8 u) (content plain xs)))
 
--- what the digits of a pair's second unit begin
+-- what the digits of a pair's second unit are followed by
 abbrev pair_read : ℕ → List ℕ → ℕ → Option (List ℕ)
 pair_read h xs l = cond (is_low_surrogate l) (prepend (encode_utf8 (surrogate_pair h l)) (content plain xs)) None
 
--- nothing, whichever way
+-- None, in both branches
 never : {A : Type 0} (b : Bool) {o : Option A} → o ≡ None → cond b o None ≡ None
 never true is = is
 never false is = refl
 
--- an open quote stays open: a line feed closes none and stands in none
+-- an open quote stays open: a line feed neither closes it nor may occur in it
 content_fed : (w : Within) (xs : List ℕ) → content w (fed xs) ≡ content w xs
 unfolding content short_escape
 content_fed plain [] = refl
@@ -206,7 +206,7 @@ content_fed (after_high h) (s ∷ u ∷ a ∷ b ∷ c ∷ d ∷ xs) =
 
 -- ---- lexemes
 
--- a byte, where what follows it is lexed alike
+-- a byte, if what follows it is lexed alike
 lex_byte_fed : (m : Mode) (c : Class) (x : ℕ) (xs : List ℕ) (k l : Mode → List Lexeme) → ((n : Mode) → k n ≡ l n) → lex_byte m c x (fed xs) k ≡ lex_byte m c x xs l
 lex_byte_fed between quote x xs k l same = ap₂ (λ o r. token (string_token o) ∷ r) (content_fed plain xs) (same in_string)
 lex_byte_fed between backslash x xs k l same = ap (λ r. token bad ∷ r) (same in_word)
@@ -225,7 +225,7 @@ lex_byte_fed in_string space x xs k l same = same in_string
 lex_byte_fed in_string other x xs k l same = same in_string
 lex_byte_fed in_escape c x xs k l same = same in_string
 
--- a line feed is no lexeme and ends in none
+-- a line feed is neither a lexeme nor part of one
 lex_fed : (m : Mode) (t : List ℕ) → lex m (fed t) ≡ lex m t
 unfolding lex
 lex_fed between [] = refl
@@ -234,27 +234,27 @@ lex_fed in_string [] = refl
 lex_fed in_escape [] = refl
 lex_fed m (x ∷ xs) = lex_byte_fed m (class x) x xs (λ n. lex n (fed xs)) (λ n. lex n xs) (λ n. lex_fed n xs)
 
--- the value that the tokens are
+-- the value of the tokens
 read_fed : (t : List ℕ) → read (fed t) ≡ read t
 read_fed t = ap (λ ls. option_and_then of_json (option_and_then (λ p. if_last p.0 p.1) (value max_depth (punctuate fresh ls)))) (lex_fed between t)
 
 -- ---- UTF-8
 
--- tests that hold together
+-- tests that imply each other
 one_by_two : (a b : Bool) → (a ≡ true → b ≡ true) → (b ≡ true → a ≡ true) → a ≡ b
 one_by_two true b to from = sym (to refl)
 one_by_two false true to from = from refl
 one_by_two false false to from = refl
 
--- a line feed is text
+-- a line feed is valid UTF-8
 feed_is_text : IsUtf8 (10 ∷ [])
 feed_is_text = subst IsUtf8 (encode_ascii 10 (omega arith)) (IsUtf8-encode 10 search)
 
--- text stays text
+-- valid UTF-8 stays valid
 text_fed : (t : List ℕ) → is_utf8 t ≡ true → is_utf8 (fed t) ≡ true
 text_fed t is = is_utf8-from_IsUtf8 (fed t) (IsUtf8-append t (10 ∷ []) (IsUtf8-from_is_utf8 t is) feed_is_text)
 
--- what is no text stays none
+-- invalid UTF-8 stays invalid
 text_left : (t : List ℕ) → is_utf8 (fed t) ≡ true → is_utf8 t ≡ true
 text_left t is =
     let long : length (fed t) ≡ length t + 1 = length-append t (10 ∷ []) in
@@ -263,16 +263,16 @@ text_left t is =
     let front = IsUtf8-take (fed t) (length t) whole (IsCharBoundary-before_ascii (fed t) (length t) (omega arith) (omega arith)) in
     is_utf8-from_IsUtf8 t (subst IsUtf8 (take-append_seam t (10 ∷ [])) front)
 
--- the value that a text is
+-- the JSON value of a text
 value_fed : (t : List ℕ) → value_of (fed t) ≡ value_of t
 value_fed t = ap₂ (λ b d. if b then d else None) (one_by_two (is_utf8 (fed t)) (is_utf8 t) (text_left t) (text_fed t)) (read_fed t)
 
 -- ---- traces and BUILDS
 
--- the trace that it is, or where it is bad
+-- the trace, or the place of its fault
 pub trace_fed : (t : Text) → trace_of (t ++ line_feed ∷ []) ≡ trace_of t
 trace_fed t = ap (λ d. trace_from (d >>= outer_in)) (value_fed t)
 
--- what it gives as BUILDS
+-- the contents as BUILDS
 pub builds_fed : (t : Text) → builds_of (t ++ line_feed ∷ []) ≡ builds_of t
 builds_fed t = ap (λ d. d >>= packages_of) (value_fed t)

@@ -1,4 +1,4 @@
--- Values by the token that they begin with, and an object that is the whole of the tokens.
+-- Values by their first token, and an object that is all of the tokens.
 use Rattle.std.proofs.Common.{◌≡◌, ℕ, List, [], ◌∷◌, length, Bool, false, true≢false, Option, Some, None, option_and_then, option_map, refl, ap, ◌∙◌, arith, rules}
 use Rattle.std.specs.Prelude.{IsSome}
 use Rattle.json.specs.Token.{Token}
@@ -40,11 +40,11 @@ passes_boolean b ts = record { datum = boolean b; reads = ap (converted of_json)
 pub passes_null : (ts : List Token) → PassesNoArray (token.null ∷ ts) ts
 passes_null ts = record { datum = null; reads = ap (converted of_json) (value_is 126 (token.null ∷ ts)); shorter = omega arith; no_array = refl }
 
--- no value begins with these
+-- no value begins with these tokens
 pub none_first : (t : Token) (ts : List Token) → ((a : Parse json.Items) (o : Parse json.Members) → value_with a o (t ∷ ts) ≡ None) → value_read 126 (t ∷ ts) ≡ None
 none_first t ts none = ap (converted of_json) (value_is 126 (t ∷ ts) ∙ none _ _)
 
--- ---- the whole of the tokens
+-- ---- all of the tokens
 
 abbrev whole : Option (json.Json × List Token) → Option Data
 whole o = option_and_then of_json (option_and_then (λ p. if_last p.0 p.1) o)
@@ -63,7 +63,7 @@ none_read (Some (j, t ∷ r)) e = refl
 begins : (ts : List Token) → converted of_json (value max_depth (token.begin_object ∷ ts)) ≡ parse_map object (members_read 126 ts)
 begins ts = ap (converted of_json) (value-begin_object 127 ts (omega arith)) ∙ converted-object (members (value 126) (length ts) ts)
 
--- the whole is an object
+-- all of the tokens are an object
 pub object_last : (ts r : List Token) (ms : Members) → ts ≡ token.begin_object ∷ r → members_read 126 r ≡ Some (ms, []) → whole_read ts ≡ Some (object ms)
 object_last ts r ms is reads = ap whole_read is ∙ last_read (value max_depth (token.begin_object ∷ r)) (object ms) (begins r ∙ ap (parse_map object) reads)
 
@@ -71,11 +71,11 @@ object_last ts r ms is reads = ap whole_read is ∙ last_read (value max_depth (
 pub object_and_more : (ts r s : List Token) (ms : Members) (t : Token) → ts ≡ token.begin_object ∷ r → members_read 126 r ≡ Some (ms, t ∷ s) → whole_read ts ≡ None
 object_and_more ts r s ms t is reads = ap whole_read is ∙ more_read (value max_depth (token.begin_object ∷ r)) (object ms) t s (begins r ∙ ap (parse_map object) reads)
 
--- no object can be read
+-- the object can't be parsed
 pub object_refused : (ts r : List Token) → ts ≡ token.begin_object ∷ r → members_read 126 r ≡ None → whole_read ts ≡ None
 object_refused ts r is reads = ap whole_read is ∙ none_read (value max_depth (token.begin_object ∷ r)) (begins r ∙ ap (parse_map object) reads)
 
--- ---- tokens that begin with no object
+-- ---- tokens that don't begin an object
 
 array_alone : (o : Option Items) → option_and_then as_object (option_map array o) ≡ None
 array_alone None = refl
@@ -111,7 +111,7 @@ opens_other a o (token.boolean b ∷ ts) other = last_plain (json.boolean b) (bo
 opens_other a o (token.null ∷ ts) other = last_plain json.null null ts refl refl
 opens_other a o (token.bad ∷ ts) other = refl
 
--- nothing stands outside the events of what is no object
+-- a value that is not an object has no outer part
 no_outer : (d : Data) → as_object d ≡ None → outer_in d ≡ None
 unfolding equals_in
 no_outer null e = refl

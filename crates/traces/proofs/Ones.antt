@@ -14,7 +14,7 @@ and_true : (b : Bool) → (b && true && true) ≡ b
 and_true true = refl
 and_true false = refl
 
--- the table that the first are taken of
+-- the table from which the weights are taken
 abbrev pub nine : List ℕ
 nine = 1 ∷ 1 ∷ 1 ∷ 1 ∷ 1 ∷ 1 ∷ 1 ∷ 1 ∷ 1 ∷ []
 

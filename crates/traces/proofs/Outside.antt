@@ -1,4 +1,4 @@
--- What stands outside the events, by what is kept of the members.
+-- The outer part of a trace, from what is kept of its members.
 use Rattle.std.proofs.Common.{◌≡◌, ℕ, List, Option, None, Some, Bool, true, false, option_map, codes, refl, sym, ap, ◌∙◌, ◌==◌, is_some}
 use Rattle.std.specs.Prelude.{if◌then◌else◌}
 use Rattle.faults.specs.Answers.{map_ok}
@@ -23,7 +23,7 @@ weighted_by items members weights count =
 abbrev outer_by : Option Items → Option Data → Option Data → ℕ → Option (List ℕ × Items)
 outer_by items members weights count = if is_some weights then weighted_by items members weights count else equals_by items members count
 
--- ---- what is kept has all but the items
+-- ---- what is kept has everything but the items
 
 hollow_items : (a : Option Items) → as_array (hollow_of a) ≡ option_map (λ _. no_items) a
 hollow_items None = refl
@@ -53,7 +53,7 @@ weights_kept ms = get_kept (codes "weights") ms ∙ same _
 outer_kept : (ms : Members) → outer_in (object (kept ms)) ≡ outer_by (option_map (λ _. no_items) (items_of ms)) (get_member (codes "members") ms) (get_member (codes "weights") ms) (members_len ms)
 outer_kept ms = outer_is (kept ms) ∙ (λ i. outer_by (items_kept ms i) (members_kept ms i) (weights_kept ms i) (kept_len ms i))
 
--- ---- the items take no part in the weights
+-- ---- the items don't affect the weights
 
 abbrev refilled : Items → Option (List ℕ × Items) → Option (List ℕ × Items)
 refilled ds o = option_map (λ p. (p.0, ds)) o
@@ -90,10 +90,10 @@ no_weights : (o : Option (List ℕ × Items)) → weights_in o ≡ None → o �
 no_weights None e = refl
 no_weights (Some p) e = absurd (cc)
 
--- nothing to be read outside the events
+-- there is no outer part
 pub no_trace : (ms : Members) → weights_in (outer_in (object (kept ms))) ≡ None → outer_in (object ms) ≡ None
 no_trace ms e = outer_is ms ∙ none_by (items_of ms) _ _ _ (sym (outer_kept ms) ∙ no_weights _ e)
 
--- the trace with the weights that are read of what is kept
+-- the trace with the weights that are parsed from what is kept
 pub trace_is : (ms : Members) (listed : Listed) (ws : List ℕ) → Lists (items_of ms) listed → weights_in (outer_in (object (kept ms))) ≡ Some ws → trace_from (outer_in (object ms)) ≡ map_ok (trace_with ws) (answer listed)
 trace_is ms listed ws lists e = ap trace_from (outer_is ms) ∙ trace_by (items_of ms) _ _ _ listed _ ws lists (sym (outer_kept ms)) e

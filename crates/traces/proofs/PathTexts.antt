@@ -1,4 +1,4 @@
--- Paths are text.
+-- Paths are UTF-8.
 use Rattle.std.proofs.Common.{◌≡◌, ℕ, zero, suc, ◌<◌, ◌≤◌, [], ◌∷◌, false, eqb, IsUtf8, refl, arith, inl, inr, rules}
 use Rattle.std.proofs.lemmas.Bool.{cases_lt, eqb-false, lt-leb, ne_eqb, or_parts}
 use Rattle.std.proofs.lemmas.Str.{IsUtf8-from_ascii, utf8_lossy-IsUtf8}
@@ -9,7 +9,7 @@ use Rattle.faults.specs.Bytes.{Text, comma, has_byte, slash}
 use Rattle.package_record.proofs.Lacking.{path_lacks}
 use Rattle.pkgpath.specs.PkgPath.{IsPath, is_path_byte}
 
--- a text that has no byte past ASCII
+-- a text without bytes above ASCII
 all_ascii : (text : Text) → ((c : ℕ) → 128 ≤ c → has_byte c text ≡ false) → (i : ℕ) → slice_index text i < 128
 all_ascii [] none i = IsAscii-nil i
 all_ascii (b ∷ bs) none zero = elim (cases_lt b 128) [
@@ -27,6 +27,6 @@ path_utf8 path is =
     IsUtf8-from_ascii path (all_ascii path (λ c above.
     path_lacks c path (no_path_byte c above) (ne_eqb comma c (λ e. omega (arith, above, e))) (ne_eqb slash c (λ e. omega (arith, above, e))) is))
 
--- so it is written as it is
+-- so it is written unchanged
 pub path_text : (path : Text) → IsPath path → utf8_lossy path ≡ path
 path_text path is = utf8_lossy-IsUtf8 path (path_utf8 path is)

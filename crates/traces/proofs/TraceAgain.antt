@@ -1,10 +1,10 @@
--- A trace that was written is read again.
+-- A trace that was written is parsed again.
 use Rattle.std.proofs.Common.{◌≡◌, ◌&&◌, ℕ, ◌+◌, ◌≤◌, ◌==◌, List, [], ◌∷◌, map, length, replicate, Bool, true, false, All, Some, Ok, refl, ap, ◌∙◌, arith, eqb, nat_le, IsUtf8}
 use Rattle.std.proofs.lemmas.Bool.{and_parts, eq-eqb, eqb-true, leb-true}
 use Rattle.std.proofs.lemmas.List.Elements.{All-head, All-tail}
 use Rattle.std.specs.List.{list_all}
 use Rattle.ballots.specs.Weights.{AreWeights, is_weight}
-use Rattle.events.specs.Events.{Event}
+use Rattle.protocol.specs.Events.{Event}
 use Rattle.faults.specs.Bytes.{Text}
 use Rattle.serde_json.specs.Read.{read}
 use Rattle.serde_json.specs.View.{items_of}
@@ -33,7 +33,7 @@ weights_again (w ∷ ws) are =
     let most = leb-true w 100 (and_parts (nat_le 1 w) (nat_le w 100) parts.0).1 in
     rw (number_again 255 w (omega (arith, most)), weights_again ws parts.1) refl
 
--- what a table of weights is: so many members at least, at most, and each weight
+-- valid weights: their number is within its bounds, and so is each weight
 same_length : (n : ℕ) → (n == n) ≡ true
 same_length n = eq-eqb n n refl
 

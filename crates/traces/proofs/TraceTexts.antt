@@ -1,4 +1,4 @@
--- The text of a trace is read as the trace.
+-- The text of a trace is parsed as the trace.
 use Rattle.std.proofs.Common.{◌≡◌, ℕ, ◌/◌, ◌%◌, ◌≤◌, zero, suc, Bool, true, false, List, [], ◌∷◌, cond, get_or, length, map, All, IsUtf8, Option, Some, None, Ok, nat_le, nat_lt, codes, refl, sym, subst, arith}
 use Rattle.std.proofs.lemmas.Bool.{and_parts, leb-true}
 use Rattle.std.proofs.lemmas.List.Elements.{All-cons, All-head, All-nil}
@@ -6,9 +6,9 @@ use Rattle.std.proofs.lemmas.Str.{IsUtf8-from_is_utf8, utf8_lossy-IsUtf8}
 use Rattle.std.specs.List.{list_all}
 use Rattle.std.specs.Str.Lossy.{utf8_lossy}
 use Rattle.ballots.specs.Weights.{is_weight}
-use Rattle.events.specs.Events.{Event, Claim, Built, Failed, Nudge, Ask, Deliver, Stop, StopIn, Restart}
-use Rattle.events.specs.declared.event.Left.{Left}
-use Rattle.events.specs.declared.event.Left.TheVariants as left
+use Rattle.protocol.specs.Events.{Event, Claim, Built, Failed, Nudge, Ask, Deliver, Stop, StopIn, Restart}
+use Rattle.protocol.specs.declared.event.Left.{Left}
+use Rattle.protocol.specs.declared.event.Left.TheVariants as left
 use Rattle.faults.specs.Bytes.{Text}
 use Rattle.hex.specs.Hex.{encode_lower, encode_with, lower_digits}
 use Rattle.json.proofs.Printed.Utf8.{IsUtf8-are_ascii, are_ascii}
@@ -40,11 +40,11 @@ unfolding encode_with
 digits_ascii [] = refl
 digits_ascii (b ∷ bs) = rw (digit_small lower_digits refl (b / 16), digit_small lower_digits refl (b % 16)) (digits_ascii bs)
 
--- bytes by their digits
+-- bytes as hexadecimal digits
 hex_sound : (bytes : List ℕ) → IsSound (hex bytes)
 hex_sound bytes = text_sound (encode_lower bytes) (IsUtf8-are_ascii (encode_lower bytes) (digits_ascii bytes))
 
--- bytes that are UTF-8 are written as they are
+-- bytes that are UTF-8 are written unchanged
 bytes_sound : (s : Text) → IsUtf8 s → IsSound (text s)
 bytes_sound s utf8 = text_sound (utf8_lossy s) (subst IsUtf8 (sym (utf8_lossy-IsUtf8 s utf8)) utf8)
 
@@ -88,13 +88,13 @@ packages_sound packages are = list_sound (map package_data packages) (each_sound
 
 -- ---- events
 
--- an event of a node
+-- an event with a node
 node_sound : (kind : Text) (n : ℕ) → are_ascii kind ≡ true → n ≤ 255 → IsSound (node_data kind n)
 node_sound kind n ascii le =
     object_sound ((codes "event", word kind) ∷ (codes "node", natural n) ∷ []) refl
     ((key (codes "event") refl, word_sound kind ascii), ((key (codes "node") refl, small_sound 255 n (omega arith) le), tt))
 
--- an event of a node and a path
+-- an event with a node and a path
 of_path_sound : (kind : Text) (n : ℕ) (path : Text) → are_ascii kind ≡ true → n ≤ 255 → IsPath path → IsSound (path_data kind n path)
 of_path_sound kind n path ascii le is =
     object_sound ((codes "event", word kind) ∷ (codes "node", natural n) ∷ (codes "path", text path) ∷ []) refl
@@ -136,7 +136,7 @@ built_sound n path packages (Some files) le is are own =
     own_are ((p, fs) ∷ []) e are = subst (All IsTextFile) (sym (taken _ fs e)) (All-head IsTextPackage (p, fs) [] are).files
     own_are (p ∷ q ∷ ps) e are = absurd cc
 
--- a datagram that comes to a node
+-- a datagram is delivered to a node
 deliver_sound : (d n : ℕ) → IsTextEvent (Deliver d n) → IsSound (event_data (Deliver d n))
 deliver_sound d n is =
     object_sound ((codes "datagram", natural d) ∷ (codes "event", word (codes "deliver")) ∷ (codes "node", natural n) ∷ []) refl (
@@ -144,7 +144,7 @@ deliver_sound d n is =
       ((key (codes "event") refl, word_sound (codes "deliver") refl), ((key (codes "node") refl, small_sound 255 n (omega arith) is.1), tt)),
     )
 
--- a stop that leaves nothing torn
+-- a stop that leaves nothing or the whole note
 clean_sound : (word_left : Text) (input : Data) → are_ascii word_left ≡ true → IsSound input → IsSound (clean_data word_left input)
 clean_sound word_left input ascii sound =
     object_sound ((codes "event", word (codes "stopin")) ∷ (codes "input", input) ∷ (codes "left", word word_left) ∷ []) refl

@@ -1,4 +1,4 @@
--- Events that a text's tree is read as at once.
+-- Events that are parsed directly from a text's tree.
 use Rattle.std.proofs.Common.{◌≡◌, ◌==◌, ◌+◌, ◌<◌, ◌≤◌, ℕ, ◌^◌, List, [], ◌∷◌, ◌++◌, length, get_or, drop, Option, None, Some, Result, Ok, Err, option_map, true, false, codes, refl, sym, ap, subst, ◌∙◌, arith, rules, append-nil, append_assoc, lt-ltb, le-leb, ne_eqb}
 use Rattle.std.proofs.lemmas.List.{drop_all, drop_more}
 use Rattle.std.specs.Char.{digit_value}
@@ -17,7 +17,7 @@ use Rattle.serde_json.specs.Data.{Items, array, item, no_items, no_members, numb
 use Rattle.serde_json.specs.Read.{of_items, of_json, number_of, number_from, is_integer}
 use Rattle.pkgpath.specs.PkgPath.{path_of}
 use Rattle.package_record.specs.Content.{NamedFile}
-use Rattle.events.specs.Events.{Built, Claim, Deliver, Nudge}
+use Rattle.protocol.specs.Events.{Built, Claim, Deliver, Nudge}
 use Rattle.traces.specs.Events.{built_alone_in, claim_in, deliver_in, event_in, most, node_alone_in}
 use Rattle.traces.specs.Fields.{◌>>=◌, all_of, answer_in, file_in, files_in}
 use Rattle.traces.specs.Fields as fields
@@ -38,7 +38,7 @@ parts_read : (p : Parts) → IsWellFormed p → 0 < length p.whole → number_of
 unfolding number_of
 parts_read p h some = rw (ne_eqb (get_or (text_of p) 0 0) 45 (no_minus p.whole _ h.whole_digits some)) (ap (number_from false) (scan-text_of p h))
 
--- digits alone are read as the number that they write
+-- digits are parsed as the number that they write
 pub numeral_read : (s : List ℕ) → IsNumeral 10 s → digits_value 10 s < 2 ^ 64 → number_of s ≡ Some (unsigned (digits_value 10 s))
 numeral_read s h small =
     let formed : IsWellFormed (whole s) = record { whole_digits = h.1; fraction_digits = tt; exponent_digits = tt; no_point = λ _. refl; no_exponent = λ _. refl; len_is = refl } in
@@ -60,7 +60,7 @@ number_at_most : (most n : ℕ) → n ≤ most → fields.number_of most (number
 unfolding fields.number_of
 number_at_most most n small = rw (le-leb _ _ small) refl
 
--- what a number of the tree says that is not too large
+-- a number of the tree, if it is in range
 pub number_tree : {E : Type 0} (most n : ℕ) (j : json.Json) (s : List ℕ) (r : Result ℕ E) → find.as_number j ≡ Some s → (slice_index s 0 == 43) ≡ false → ParsesUnsigned 64 10 s r → result_ok r ≡ Some n → n ≤ most → Reads (fields.number_of most) j n
 number_tree most n json.null s r is plus parses ok small = absurd (search (rules, is))
 number_tree most n (json.boolean b) s r is plus parses ok small = absurd (search (rules, is))
@@ -71,7 +71,7 @@ number_tree most n (json.number t) s r is plus parses ok small =
     let same : t ≡ s = search (rules, is) in
     (number (unsigned n), ap (option_map number) (ap number_of same ∙ numeral_in n s r plus parses ok), number_at_most most n small)
 
--- a number of 64 bits that the tree is
+-- a number of 64 bits in the tree
 pub small_tree : {E : Type 0} (j : json.Json) (s : List ℕ) (r : Result ℕ E) (o : Option ℕ) → find.as_number j ≡ Some s → (slice_index s 0 == 43) ≡ false → ParsesUnsigned 64 10 s r → o ≡ result_ok r → IfSome o (λ n. (limit : ℕ) → n ≤ limit → Reads (fields.number_of limit) j n)
 small_tree j s r None is plus parses same = tt
 small_tree j s r (Some n) is plus parses same = λ limit small. number_tree limit n j s r is plus parses (sym same) small
@@ -98,7 +98,7 @@ ReadsItems vs fs = (ds : Items) × (of_items (items_view vs) ≡ Some ds) × (al
 items_cons : (v : Value Global) (vs : List (Value Global)) (f : NamedFile) (fs : List NamedFile) → Reads file_in (value_view v) f → ReadsItems vs fs → ReadsItems (v ∷ vs) (f ∷ fs)
 items_cons v vs f fs first rest = (item first.0 rest.0, rw (first.1, rest.1) refl, rw (first.2, rest.2) refl)
 
--- one item more
+-- one more item
 pub items_more : (vs : List (Value Global)) (i : ℕ) (v : Value Global) (f : NamedFile) (done : List NamedFile) → i < length vs → v ≡ get_or vs i v → Reads file_in (value_view v) f
     → ((fs : List NamedFile) → ReadsItems (drop i vs) fs → ReadsItems vs (done ++ fs))
     → (fs : List NamedFile) → ReadsItems (drop (i + 1) vs) fs → ReadsItems vs ((done ++ f ∷ []) ++ fs)
@@ -151,7 +151,7 @@ claim_tree k l m o q above event host node path a h n p first second third fourt
   rw goes.2 (rw of.2 (rw by.2 (rw over.2 refl))),
 )
 
--- ---- members in turn
+-- ---- members in order
 
 pub in_three : (xs : List Entry) (a b c : Entry) → 3 ≤ length xs → length xs < 4 → a ≡ get_or xs 0 a → b ≡ get_or xs 1 b → c ≡ get_or xs 2 c → xs ≡ a ∷ b ∷ c ∷ []
 in_three [] a b c most least first second third = absurd (omega arith)

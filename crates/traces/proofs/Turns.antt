@@ -1,4 +1,4 @@
--- The grammar's loops, a turn at a time, under the conversion to data.
+-- The loops of the grammar, one iteration at a time, with the conversion to data.
 use Rattle.std.proofs.Common.{◌≡◌, ℕ, zero, suc, ◌-◌, ◌<◌, ◌≤◌, List, length, Option, Some, None, option_map, option_and_then, refl, ap, ◌∙◌}
 use Rattle.json.specs.Token.{Token}
 use Rattle.json.specs.Json as json
@@ -15,7 +15,7 @@ found : {A B : Type 0} (a : A) (r s : List Token) (x : Option B) (b : B) → opt
 found a r s None b e = absurd (cc)
 found a r s (Some y) b e = let same = ap (pick (y, r)) e in (ap (λ p. p.1) same, ap (λ p. Some p.0) same)
 
--- what was converted was read
+-- what was converted was parsed
 pub converted_some : {A B : Type 0} (f : A → Option B) (o : Option (A × List Token)) (b : B) (r : List Token) → converted f o ≡ Some (b, r) → (a : A) × (o ≡ Some (a, r)) × (f a ≡ Some b)
 converted_some f None b r e = absurd (cc)
 converted_some f (Some p) b r e = let both = found p.0 p.1 r (f p.0) b e in (p.0, ap (λ s. Some (p.0, s)) both.0, both.1)

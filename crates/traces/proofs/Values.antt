@@ -1,4 +1,4 @@
--- The value that a text is, by the reader's answers.
+-- The value of a text, by the results of the parser.
 use Rattle.std.proofs.Common.{◌≡◌, Bool, true, false, None, Some, refl, if◌then◌else◌}
 use Rattle.std.proofs.lemmas.Str.{IsUtf8-from_is_utf8, is_utf8-from_IsUtf8}
 use Rattle.std.specs.Prelude.{IsUtf8}
@@ -18,6 +18,6 @@ none_read text false is refused = refl
 pub no_value : (text : Text) → (IsUtf8 text → read text ≡ None) → value_of text ≡ None
 no_value text refused = none_read text (is_utf8 text) refl refused
 
--- in UTF-8 it is what the text is read as
+-- the value of a UTF-8 text
 pub utf8_read : (text : Text) → IsUtf8 text → value_of text ≡ read text
 utf8_read text utf8 = rw (is_utf8-from_IsUtf8 text utf8) refl

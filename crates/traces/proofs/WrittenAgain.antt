@@ -1,13 +1,13 @@
--- What was written is read again, event by event.
+-- What was written is parsed again, event by event.
 use Rattle.std.proofs.Common.{◌≡◌, ℕ, ◌≤◌, List, [], ◌∷◌, map, Bool, true, false, All, Option, None, Some, refl, ◌∙◌, bytes_eq}
 use Rattle.std.proofs.lemmas.Bool.{le-leb}
 use Rattle.std.proofs.lemmas.List.Elements.{All-head, All-tail}
 use Rattle.std.proofs.lemmas.Slice.Eq.{bytes_eq-Decides}
 use Rattle.std.proofs.lemmas.Str.{IsUtf8-from_is_utf8, utf8_lossy-IsUtf8}
 use Rattle.std.specs.Str.Lossy.{utf8_lossy}
-use Rattle.events.specs.Events.{Event, Claim, Built, Failed, Nudge, Ask, Deliver, Stop, StopIn, Restart, is_step}
-use Rattle.events.specs.declared.event.Left.{Left}
-use Rattle.events.specs.declared.event.Left.TheVariants as left
+use Rattle.protocol.specs.Events.{Event, Claim, Built, Failed, Nudge, Ask, Deliver, Stop, StopIn, Restart, is_step}
+use Rattle.protocol.specs.declared.event.Left.{Left}
+use Rattle.protocol.specs.declared.event.Left.TheVariants as left
 use Rattle.faults.specs.Bytes.{Text}
 use Rattle.hex.proofs.HexLemmas.{decode_of-encode_lower}
 use Rattle.package_record.specs.Content.{NamedFile}
@@ -31,7 +31,7 @@ path_again path is = rw (path_text path is, is) refl
 name_again : (f : NamedFile) → IsTextFile f → utf8_lossy f.name ≡ f.name
 name_again f is = utf8_lossy-IsUtf8 f.name (IsUtf8-from_is_utf8 f.name is.name)
 
--- items that are read again one by one
+-- items that are parsed again one by one
 pub all_again : {X : Type 0} (read : Data → Option X) (write : X → Data) (P : X → Type 0) → ((x : X) → P x → read (write x) ≡ Some x)
     → (xs : List X) → All P xs → all_of read (items_of (map write xs)) ≡ Some xs
 all_again read write P each [] are = refl

@@ -1,4 +1,4 @@
--- What BUILDS gives: paths, each once, with their files.
+-- The contents of BUILDS: paths, without repetition, with their files.
 use Rattle.std.specs.Prelude.{List, [], ◌∷◌, ◌++◌, Option, None, Some, map, if◌then◌else◌}
 use Rattle.faults.specs.Bytes.{Text, is_among}
 use Rattle.package_record.specs.Content.{NamedFile}
@@ -16,7 +16,7 @@ keyed key d = do
   files ← files_in d
   Some (path, files)
 
--- these packages and one more, unless its path stands among them
+-- these packages and one more, unless they have its path already
 abbrev pub with_package : Given → Text × List NamedFile → Option Given
 with_package packages p =
     if is_among (map (λ q. q.0) packages) p.0 then None
@@ -26,8 +26,8 @@ with_package packages p =
 abbrev pub with_member : Given → Text → Data → Option Given
 with_member packages key d = keyed key d >>= with_package packages
 
--- the packages of the members behind these, in their order, each path once; two keys that spell one
--- path are a fault
+-- the packages of these members, appended to the given ones in their order; two keys with equal
+-- paths are a fault
 abbrev pub packages_behind : Given → Members → Option Given
 packages_behind packages no_members = Some packages
 packages_behind packages (member key d ms) =
@@ -37,6 +37,6 @@ packages_behind packages (member key d ms) =
 abbrev pub packages_of : Data → Option Given
 packages_of d = as_object d >>= packages_behind []
 
--- what a text gives as BUILDS, if it is one
+-- the contents of a text as BUILDS, if it is valid
 abbrev pub builds_of : Text → Option Given
 builds_of text = value_of text >>= packages_of

@@ -5,9 +5,9 @@ use Rattle.faults.specs.Bytes.{Text}
 use Rattle.hex.specs.Hex.{encode_lower}
 use Rattle.package_record.specs.Content.{NamedFile}
 use Rattle.protocol.specs.Given.{Given}
-use Rattle.events.specs.Events.{Event, Claim, Built, Failed, Nudge, Ask, Deliver, Stop, StopIn, Restart}
-use Rattle.events.specs.declared.event.Left.{Left}
-use Rattle.events.specs.declared.event.Left.TheVariants as left
+use Rattle.protocol.specs.Events.{Event, Claim, Built, Failed, Nudge, Ask, Deliver, Stop, StopIn, Restart}
+use Rattle.protocol.specs.declared.event.Left.{Left}
+use Rattle.protocol.specs.declared.event.Left.TheVariants as left
 use Rattle.serde_json.specs.Data.{Data, Members, array, object, number, string, unsigned, no_members, member}
 use Rattle.serde_json.specs.View.{items_of}
 use Rattle.serde_json.specs.Written.{compact_text}
@@ -21,7 +21,7 @@ use Rattle.traces.specs.Trace.{Trace}
 abbrev pub natural : ℕ → Data
 natural n = number (unsigned n)
 
--- bytes as a text: those that are no UTF-8 give way to the replacement character
+-- bytes as a text; those that are not UTF-8 are replaced by the replacement character
 abbrev pub text : Text → Data
 text bytes = string (utf8_lossy bytes)
 
@@ -29,11 +29,11 @@ text bytes = string (utf8_lossy bytes)
 abbrev pub word : Text → Data
 word w = string w
 
--- bytes, by lower-case digits
+-- bytes, as lower-case hexadecimal digits
 abbrev pub hex : List ℕ → Data
 hex bytes = string (encode_lower bytes)
 
--- the members, whose keys stand in order
+-- these members; their keys are in order
 abbrev pub members : List (Text × Data) → Members
 members [] = no_members
 members (p ∷ ps) = member p.0 p.1 (members ps)
@@ -66,21 +66,21 @@ packages_data packages = list_data (map package_data packages)
 
 -- ---- events
 
--- what an event of this kind has of a node
+-- the members of an event of this kind with a node
 abbrev pub node_members : Text → ℕ → Members
 node_members kind n = members ((codes "event", word kind) ∷ (codes "node", natural n) ∷ [])
 
--- the event of this kind, of a node
+-- the event of this kind with a node
 abbrev pub node_data : Text → ℕ → Data
 node_data kind n = object (node_members kind n)
 
--- what an event of this kind has of a node and a path
+-- the members of an event of this kind with a node and a path
 abbrev pub path_members : Text → ℕ → Text → Members
 path_members kind n path =
     members ((codes "event", word kind) ∷ (codes "node", natural n)
     ∷ (codes "path", text path) ∷ [])
 
--- the event of this kind, of a node and a path
+-- the event of this kind with a node and a path
 abbrev pub path_data : Text → ℕ → Text → Data
 path_data kind n path = object (path_members kind n path)
 
@@ -90,7 +90,7 @@ claim_data n path host above =
     fields ((codes "above", natural above) ∷ (codes "event", word (codes "claim"))
     ∷ (codes "host", natural host) ∷ (codes "node", natural n) ∷ (codes "path", text path) ∷ [])
 
--- a unit was built: the files of the event's own path, or all packages
+-- a unit was built: either the files of the event's own path, or all packages
 abbrev pub built_with : ℕ → Text → Given → Option (List NamedFile) → Data
 built_with n path packages (Some files) =
     fields ((codes "event", word (codes "built")) ∷ (codes "files", files_data files)
@@ -99,23 +99,23 @@ built_with n path packages None =
     fields ((codes "event", word (codes "built")) ∷ (codes "node", natural n)
     ∷ (codes "packages", packages_data packages) ∷ (codes "path", text path) ∷ [])
 
--- a package alone that is the event's path stands as its files
+-- a unit was built; a single package with the event's path is written as its files
 abbrev pub built_data : ℕ → Text → Given → Data
 built_data n path packages = built_with n path packages (own_files path packages)
 
--- a datagram that comes to a node
+-- a datagram is delivered to a node
 abbrev pub deliver_data : ℕ → ℕ → Data
 deliver_data d n =
     fields ((codes "datagram", natural d) ∷ (codes "event", word (codes "deliver"))
     ∷ (codes "node", natural n) ∷ [])
 
--- what a stop inside this step has, but for bytes
+-- the members of a stop inside this step, without bytes
 abbrev pub stop_members : Text → Data → Members
 stop_members left input =
     members ((codes "event", word (codes "stopin")) ∷ (codes "input", input)
     ∷ (codes "left", word left) ∷ [])
 
--- a stop inside this step that leaves nothing torn
+-- a stop inside this step that leaves nothing or the whole note
 abbrev pub clean_data : Text → Data → Data
 clean_data left input = object (stop_members left input)
 
@@ -146,23 +146,23 @@ event_data (Restart n) = node_data (codes "restart") n
 
 -- ---- the trace
 
--- what a trace has, but for weights
+-- the members of a trace without weights
 abbrev pub plain_members : Trace → Members
 plain_members t =
     members ((codes "events", list_data (map event_data t.events))
     ∷ (codes "members", natural (length t.weights)) ∷ [])
 
--- what a trace has, with weights
+-- the members of a trace with weights
 abbrev pub all_members : Trace → Members
 all_members t =
     members ((codes "events", list_data (map event_data t.events))
     ∷ (codes "members", natural (length t.weights))
     ∷ (codes "weights", list_data (map natural t.weights)) ∷ [])
 
--- the trace as a value; a table of ones is not written
+-- the trace as a value; weights that are all 1 are not written
 abbrev pub trace_data : Trace → Data
 trace_data t = if are_ones t.weights then object (plain_members t) else object (all_members t)
 
--- the text of a trace, with no blanks
+-- the text of a trace, without spaces
 abbrev pub trace_text : Trace → Text
 trace_text t = compact_text (trace_data t)

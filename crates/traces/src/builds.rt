@@ -17,7 +17,7 @@ use serde_json::{Map, Value};
 use std::alloc::Global;
 use std::string::String;
 
-/// Enters the path, and answers if it is new.
+/// Inserts the path, and returns whether it is new.
 fn enter(paths: &mut IndexSet<PkgPath>, path: &PkgPath) -> Result<bool, Memory>
     ensures is_new { IfOk result (λ is_new. is_new ≡ not (is_among paths.old.keys path.now)) }
     ensures entered { IfOk result (λ is_new.
@@ -36,7 +36,7 @@ fn keyed(alloc: Global, key: &str, value: &Value) -> Result<(PkgPath, Files), Re
     Ok((path, files))
 }
 
-/// Puts the package of a key and its value behind these, whose paths these are.
+/// Appends the package of a key and its value to these packages, whose paths these are.
 fn add(
     alloc: Global,
     paths: &mut IndexSet<PkgPath>,
@@ -57,7 +57,7 @@ fn add(
     Ok(())
 }
 
-/// Puts the packages of these members behind those, whose paths these are.
+/// Appends the packages of these members to the given ones, whose paths these are.
 fn add_all(
     alloc: Global,
     paths: &mut IndexSet<PkgPath>,

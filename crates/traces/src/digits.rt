@@ -7,12 +7,12 @@ ghost use Rattle.traces.specs.inside.Given.{Gives};
 use crate::read_error::ReadError;
 use std::alloc::Global;
 
-/// What is no digit.
+/// The value of a byte that is not a digit.
 const NO_DIGIT: u8 = 16;
 
-/// The bytes that the digits spell. All are read in one pass with no early end, and what is none is
-/// told by the greatest value, so that many are read at a time. Where one is none they are read
-/// once more into the same room, up to that one.
+/// The bytes that the digits encode. All digits are decoded in one pass without an early exit,
+/// which the compiler can vectorize; an invalid one is found by the greatest value. If there is
+/// one, they are decoded once more into the same buffer, up to that one.
 pub fn decoded(alloc: Global, text: &[u8]) -> Result<Vec<u8>, ReadError>
     ensures { Gives (λ v. v.items) result (answer_in (decode_of text.now)) }
 {
@@ -29,8 +29,8 @@ pub fn decoded(alloc: Global, text: &[u8]) -> Result<Vec<u8>, ReadError>
     }
 }
 
-/// Reads the pairs of digits into the bytes, and tells the greatest value among the digits. Where
-/// that is `NO_DIGIT`, the bytes say nothing.
+/// Decodes the pairs of digits into the bytes, and returns the greatest value of a digit. If that
+/// is `NO_DIGIT`, the bytes are meaningless.
 fn read_pairs(bytes: &mut [u8], text: &[u8]) -> u8
     requires { length text.now ≡ 2 * length bytes.old }
     ensures { result < 16 → decode_of text.now ≡ Ok bytes.new }

@@ -1,6 +1,6 @@
 //! Events, by their kinds.
 ghost use Rattle.std.specs.Prelude.{◌≡◌, ◌∷◌, [], IfOk, option_map};
-ghost use Rattle.events.specs.Events.{event_view};
+ghost use Rattle.protocol.specs.Events.{event_view};
 ghost use Rattle.serde_json.specs.View.{view};
 ghost use Rattle.traces.specs.Events.{
   built_alone_in,
@@ -22,17 +22,16 @@ ghost use Rattle.traces.specs.Events.{
   stop_inside,
   torn_stop_in,
 };
-ghost use Rattle.events.specs.Events as events;
+ghost use Rattle.protocol.specs.Events as events;
 ghost use Rattle.traces.specs.inside.Given.{Gives};
 
 use crate::fields::{field, field_count, hex, node, number, path, text};
 use crate::files::{files, packages};
 use crate::read_error::ReadError;
-use events::{Event, Left, Torn};
 use faults::Memory;
 use package_record::Files;
 use pkgpath::PkgPath;
-use protocol::Packages;
+use protocol::{Event, Left, Packages, Torn};
 use serde_json::Value;
 use std::alloc::Global;
 
@@ -56,7 +55,7 @@ fn claim(alloc: Global, value: &Value) -> Result<Event, ReadError>
     })
 }
 
-/// The path with these files.
+/// The path with these files, as the only package.
 pub fn alone(alloc: Global, path: &PkgPath, files: Files) -> Result<Packages, Memory>
     ensures { IfOk result (λ packages. packages ≡ (path.now, files) ∷ []) }
 {
@@ -65,7 +64,7 @@ pub fn alone(alloc: Global, path: &PkgPath, files: Files) -> Result<Packages, Me
     Ok(Packages::new(packages))
 }
 
-/// The event's own path is the one package that was built.
+/// The only package that was built has the event's own path.
 #[tactic(auto, unfolding(crate::specs::Events::built_alone_in))]
 fn built_alone(alloc: Global, value: &Value) -> Result<Event, ReadError>
     ensures { Gives event_view result (built_alone_in (view value.now)) }
@@ -84,7 +83,7 @@ fn built_alone(alloc: Global, value: &Value) -> Result<Event, ReadError>
     })
 }
 
-/// The files of the one package, if it is that of this path.
+/// The files of the package, if there is exactly one and it has this path.
 pub fn own_files<'a>(path: &PkgPath, packages: &'a Packages) -> Option<&'a Files>
     ensures { option_map (λ f. f.now) result ≡ own_files path.now packages.entry.now }
 {
@@ -112,7 +111,7 @@ fn built_several(alloc: Global, value: &Value) -> Result<Event, ReadError>
     })
 }
 
-/// A node and a path, and nothing else but the kind.
+/// A node and a path, with no other member than the kind.
 #[tactic(auto, unfolding(crate::specs::Events::node_and_path_in))]
 fn node_and_path(alloc: Global, value: &Value) -> Result<(u8, PkgPath), ReadError>
     ensures { Gives (λ p. p) result (node_and_path_in (view value.now)) }
@@ -126,7 +125,7 @@ fn node_and_path(alloc: Global, value: &Value) -> Result<(u8, PkgPath), ReadErro
     }
 }
 
-/// A node, and nothing else but the kind.
+/// A node, with no other member than the kind.
 #[tactic(auto, unfolding(crate::specs::Events::node_alone_in))]
 fn node_alone(value: &Value) -> Result<u8, ReadError>
     ensures { Gives (λ n. n) result (node_alone_in (view value.now)) }
@@ -155,7 +154,7 @@ fn ask(alloc: Global, value: &Value) -> Result<Event, ReadError>
     Ok(Event::Ask { node, path })
 }
 
-/// A datagram comes to a node.
+/// A datagram is delivered to a node.
 #[tactic(auto, unfolding(crate::specs::Events::deliver_in))]
 fn deliver(value: &Value) -> Result<Event, ReadError>
     ensures { Gives event_view result (deliver_in (view value.now)) }
@@ -188,7 +187,7 @@ fn nudge(value: &Value) -> Result<Event, ReadError>
     Ok(Event::Nudge { node })
 }
 
-/// An event of this kind that a stop may cut short.
+/// An event of this kind, if a stop may interrupt it.
 fn step_of(alloc: Global, kind: &str, value: &Value) -> Result<Event, ReadError>
     ensures { Gives event_view result (step_of kind.now (view value.now)) }
 {
@@ -209,14 +208,14 @@ fn step_of(alloc: Global, kind: &str, value: &Value) -> Result<Event, ReadError>
     }
 }
 
-/// One of the six events that a stop may cut short.
+/// One of the six events that a stop may interrupt.
 fn step(alloc: Global, value: &Value) -> Result<Event, ReadError>
     ensures { Gives event_view result (step_in (view value.now)) }
 {
     step_of(alloc, text(value, "event")?, value)
 }
 
-/// What is left, where nothing torn is.
+/// What is left of the note, if it isn't torn.
 fn left(word: &str) -> Result<Left, ReadError>
     ensures { Gives (λ l. l) result (left_of word.now) }
 {
@@ -229,7 +228,7 @@ fn left(word: &str) -> Result<Left, ReadError>
     }
 }
 
-/// A stop inside the step that the value is, which leaves this.
+/// A stop inside the step that the value encodes, which leaves this.
 fn stop_in(alloc: Global, input: &Value, left: Left) -> Result<Event, ReadError>
     ensures { Gives event_view result (stop_inside left (view input.now)) }
 {
@@ -237,7 +236,7 @@ fn stop_in(alloc: Global, input: &Value, left: Left) -> Result<Event, ReadError>
     Ok(Event::stop_in(alloc, input, left)?)
 }
 
-/// A stop inside a step that leaves nothing torn.
+/// A stop inside a step that leaves nothing or the whole note.
 #[tactic(auto, unfolding(crate::specs::Events::clean_stop_in))]
 fn clean_stop(alloc: Global, value: &Value) -> Result<Event, ReadError>
     ensures { Gives event_view result (clean_stop_in (view value.now)) }

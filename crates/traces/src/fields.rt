@@ -1,4 +1,4 @@
-//! The members of an object, and the values that they may have.
+//! The members of a JSON object, and their values.
 ghost use Rattle.std.specs.Prelude.{◌≡◌, ◌≤◌, IfOk};
 ghost use Rattle.serde_json.specs.Find.{get};
 ghost use Rattle.serde_json.specs.View.{items_view, view};
@@ -23,7 +23,7 @@ use pkgpath::{PathFault, PkgPath};
 use serde_json::Value;
 use std::alloc::Global;
 
-/// How many fields an object has; 0, where the value is none.
+/// The number of members of an object, or 0 if the value is not an object.
 pub fn field_count(value: &Value) -> usize
     ensures { result ≡ count_in (view value.now) }
 {
@@ -64,7 +64,7 @@ pub fn array<'a>(value: &'a Value, key: &str) -> Result<&'a Vec<Value>, ReadErro
     }
 }
 
-/// A number that is no more than this.
+/// A number of at most this value.
 #[tactic(auto, unfolding(crate::specs::Fields::number_of))]
 pub fn number_of(value: &Value, most: u64) -> Result<u64, ReadError>
     ensures gives { Gives (λ n. n) result (number_of most (view value.now)) }
@@ -76,7 +76,7 @@ pub fn number_of(value: &Value, most: u64) -> Result<u64, ReadError>
     }
 }
 
-/// A number at the key that is no more than this.
+/// A number at the key of at most this value.
 pub fn number(value: &Value, key: &str, most: u64) -> Result<u64, ReadError>
     ensures gives { Gives (λ n. n) result (number_at key.now most (view value.now)) }
     ensures most { IfOk result (λ n. n ≤ most) }
@@ -92,7 +92,7 @@ pub fn node(value: &Value) -> Result<u8, ReadError>
     Ok(node as u8)
 }
 
-/// The path that the text spells.
+/// The path that the text encodes.
 pub fn path_of(alloc: Global, text: &str) -> Result<PkgPath, ReadError>
     ensures { Gives (λ p. p) result (answer_in (path_of text.now)) }
 {
@@ -110,14 +110,14 @@ pub fn path(alloc: Global, value: &Value) -> Result<PkgPath, ReadError>
     path_of(alloc, text(value, "path")?)
 }
 
-/// The bytes that the digits spell.
+/// The bytes that the digits encode.
 pub fn bytes_of(alloc: Global, text: &str) -> Result<Vec<u8>, ReadError>
     ensures { Gives (λ v. v.items) result (answer_in (decode_of text.now)) }
 {
     decoded(alloc, text.as_bytes())
 }
 
-/// The bytes that hexadecimal digits in either case spell.
+/// The bytes of hexadecimal digits in either case.
 pub fn hex(alloc: Global, value: &Value) -> Result<Vec<u8>, ReadError>
     ensures { Gives (λ v. v.items) result (hex_at (view value.now)) }
 {

@@ -6,15 +6,15 @@ ghost use Rattle.traces.specs.Laws.{
   TraceTextIsReadAgain,
 };
 
-/// What is written for a trace is read as that trace, also with a line feed behind it, if names of
-/// files are UTF-8 and stops are inside steps.
+/// The text of a trace is parsed as that trace, also with a line feed after it, if names of files
+/// are UTF-8 and stops are inside steps.
 pub fn texts_are_read_again()
     ensures text { TraceTextIsReadAgain }
     ensures line { TraceLineIsReadAgain }
 {}
 
-/// A text with a line feed behind it is the same trace as without, or bad at the same place, and
-/// gives the same as BUILDS.
+/// A line feed after a text doesn't change which trace it is, where it is bad, or its contents as
+/// BUILDS.
 pub fn line_feeds_change_nothing()
     ensures trace { LineFeedBehindATraceChangesNothing }
     ensures builds { LineFeedBehindBuildsChangesNothing }

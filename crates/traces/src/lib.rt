@@ -11,9 +11,8 @@ ghost use Rattle.traces.specs.declared.TraceFault.TheVariants.{Memory as out_of_
 ghost use Rattle.traces.specs.Written.{trace_text};
 
 use ballots::Weights;
-use events::Event;
 use faults::{Fault, Memory, WantOfMemory};
-use protocol::Packages;
+use protocol::{Event, Packages};
 use std::alloc::Global;
 use thiserror::Error;
 
@@ -32,20 +31,20 @@ mod writing;
 
 pub use crate::laws::{line_feeds_change_nothing, texts_are_read_again};
 
-/// What each member weighs, and the events of a run, in turn.
+/// The weight of each member, and the events of a run, in order.
 #[derive(Drop)]
 pub struct Trace {
     pub weights: Weights,
     pub events: Vec<Event>,
 }
 
-/// Why a text is no trace, or no BUILDS. The number is that of an event, counted from 1, or 0
+/// Why a text is not a trace, or not BUILDS. The number is that of an event, counted from 1, or 0
 /// outside the events.
 #[derive(Clone, Copy, Debug, PartialEq, Eq, Error)]
 pub enum TraceFault {
     #[error("out of memory")]
     Memory,
-    #[error("the trace is bad at event {0}")]
+    #[error("the trace is malformed at event {0}")]
     BadTrace(u64),
 }
 
@@ -77,13 +76,13 @@ impl Fault for TraceFault {
     }
 }
 
-/// The trace that the text is. What stands outside the events is tested first, and then the events
-/// in turn.
+/// The trace that the text encodes. What is outside the events is tested first, and then the events
+/// in order.
 ///
 /// # Errors
 ///
-/// `BadTrace` with 0, where the text is no JSON value of the right members; with the number of an
-/// event, where that is the first that is none.
+/// `BadTrace` with 0 if the text is not a JSON value with the right members, or with the number of
+/// the first bad event.
 pub fn read_trace(alloc: Global, text: &[u8]) -> Result<Trace, TraceFault>
     ensures ok { IfOk result (λ trace. trace_of text.now ≡ Ok (trace_view trace)) }
     ensures err { IfErr result (IsTraceFault text.now) }
@@ -92,9 +91,10 @@ pub fn read_trace(alloc: Global, text: &[u8]) -> Result<Trace, TraceFault>
     reading::trace(weights, listed)
 }
 
-/// Appends the trace's text, which has no blanks, or nothing. Bytes of a file's name that are no
-/// UTF-8 give way to the replacement character. Where there are none, and stops are inside steps,
-/// the text is read again as the trace, with a line feed behind it or without.
+/// Appends the trace's text, which has no spaces, or nothing if memory runs out. In names of files,
+/// bytes that are not UTF-8 are replaced by the replacement character. If there are no such bytes,
+/// and stops are inside steps, the text is parsed as the trace, with a line feed after it or
+/// without.
 pub fn write_trace(trace: &Trace, out: &mut Vec<u8>) -> Result<(), Memory>
     ensures ok { OnOk result
         (out.new.items ≡ out.old.items ++ trace_text (trace_view trace.now)) }
@@ -112,11 +112,11 @@ pub fn write_trace(trace: &Trace, out: &mut Vec<u8>) -> Result<(), Memory>
     Ok(())
 }
 
-/// Paths, each once, with their files: an object whose keys are package paths.
+/// Paths, without repetition, with their files: an object whose keys are package paths.
 ///
 /// # Errors
 ///
-/// `BadTrace` with 0, where the text is none, or two of its keys spell one path.
+/// `BadTrace` with 0 if the text is malformed, or if two of its keys are the same path.
 pub fn read_builds(alloc: Global, text: &[u8]) -> Result<Packages, TraceFault>
     ensures ok { IfOk result (λ builds. builds_of text.now ≡ Some builds) }
     ensures err { IfErr result (λ e. (e ≡ TraceFault.Memory)

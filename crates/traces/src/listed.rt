@@ -1,6 +1,6 @@
-//! What the items of an array are as events.
+//! The items of an array as events.
 ghost use Rattle.std.specs.Prelude.{◌≡◌, ◌≤◌, length, IfOk, IfErr, Some};
-ghost use Rattle.events.specs.Events.{event_view};
+ghost use Rattle.protocol.specs.Events.{event_view};
 ghost use Rattle.serde_json.specs.Data.{Data, Items, item as item_and};
 ghost use Rattle.traces.specs.Events.{event_in};
 ghost use Rattle.serde_json.specs.View.{view};
@@ -9,11 +9,11 @@ ghost use Rattle.traces.specs.inside.Listing.{answer_behind};
 
 use crate::event::event;
 use crate::read_error::ReadError;
-use events::Event;
+use protocol::Event;
 use serde_json::Value;
 use std::alloc::Global;
 
-/// The events of the items so far, or the number of the first item that is none.
+/// The events of the items so far, or the number of the first item that isn't an event.
 #[derive(Drop)]
 pub enum Listed {
     Events(Vec<Event>),
@@ -21,7 +21,7 @@ pub enum Listed {
 }
 
 impl Listed {
-    /// With one item more.
+    /// The state after one more item.
     pub fn then(self, alloc: Global, item: &Value) -> Result<Listed, ReadError>
         ensures ok { IfOk result (λ listed. (rest : Items)
             → answer_behind self (item_and (view item.now) rest) ≡ answer_behind listed rest) }
@@ -39,7 +39,7 @@ impl Listed {
         Ok(Listed::Events(events))
     }
 
-    /// With one item more, which is this event.
+    /// The state after one more item, which is this event.
     pub fn with(self, event: Event) -> Result<Listed, ReadError>
         ensures ok { IfOk result (λ listed. (d : Data) → event_in d ≡ Some (event_view event)
             → (rest : Items)

@@ -1,4 +1,4 @@
-//! Why a value is not what is to be read.
+//! Why a value can't be parsed.
 ghost use Rattle.std.specs.Prelude.{◌≡◌};
 ghost use Rattle.traces.specs.declared.read_error.ReadError.TheVariants.{Memory as out_of_memory};
 ghost use Rattle.traces.specs.inside.Given.{outer_fault};
@@ -6,7 +6,7 @@ ghost use Rattle.traces.specs.inside.Given.{outer_fault};
 use crate::TraceFault;
 use faults::WantOfMemory;
 
-/// Memory ran out, or the value is none.
+/// Out of memory, or a malformed value.
 #[derive(Debug, Drop)]
 pub enum ReadError {
     Memory,

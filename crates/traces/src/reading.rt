@@ -1,4 +1,4 @@
-//! A trace, by its members.
+//! Parsing of a trace by its members.
 ghost use Rattle.std.specs.Prelude.{◌≡◌, ◌≤◌, IfErr, IfOk, Ok};
 ghost use Rattle.faults.specs.Answers.{map_ok};
 ghost use Rattle.serde_json.specs.View.{view};
@@ -27,7 +27,7 @@ use ballots::Weights;
 use serde_json::Value;
 use std::alloc::Global;
 
-/// The value that the text is.
+/// The JSON value of the text.
 pub fn value(alloc: Global, text: &[u8]) -> Result<Value, ReadError>
     ensures { Gives view result (value_of text.now) }
 {
@@ -38,7 +38,7 @@ pub fn value(alloc: Global, text: &[u8]) -> Result<Value, ReadError>
     }
 }
 
-/// So many members that each weigh 1.
+/// The weights of this number of members that each weigh 1.
 fn ones(members: u64) -> Result<Weights, ReadError>
     requires { members ≤ 9 }
     ensures { Gives (λ w. w) result (ones_of members) }
@@ -49,7 +49,7 @@ fn ones(members: u64) -> Result<Weights, ReadError>
     }
 }
 
-/// The members of equal weight, where the events are an array.
+/// The weights if all members weigh 1; the events have to be an array.
 #[tactic(auto, unfolding(crate::specs::Trace::equals_in))]
 fn equals(value: &Value) -> Result<Weights, ReadError>
     ensures { Gives (λ w. w) result (weights_in (equals_in (view value.now))) }
@@ -75,7 +75,7 @@ fn bytes(alloc: Global, value: &Value, key: &str) -> Result<Vec<u8>, ReadError>
     Ok(numbers)
 }
 
-/// These weights of so many members, which are not all 1.
+/// These weights, if they are of this number of members and not all 1.
 fn table(members: u64, weights: &[u8]) -> Result<Weights, ReadError>
     ensures { Gives (λ w. w) result (table_of members weights.now) }
 {
@@ -88,7 +88,7 @@ fn table(members: u64, weights: &[u8]) -> Result<Weights, ReadError>
     }
 }
 
-/// The members' weights, which are not all 1, where the events are an array.
+/// The weights if not all members weigh 1; the events have to be an array.
 #[tactic(auto, unfolding(crate::specs::Trace::weighted_in))]
 fn weighted(alloc: Global, value: &Value) -> Result<Weights, ReadError>
     ensures { Gives (λ w. w) result (weights_in (weighted_in (view value.now))) }
@@ -110,7 +110,7 @@ pub fn are_ones(weights: &[u8]) -> bool
     weights.iter().all(|weight| *weight == 1)
 }
 
-/// What stands outside the events, where those are an array.
+/// The weights; the events have to be an array.
 fn outer(alloc: Global, value: &Value) -> Result<Weights, ReadError>
     ensures { Gives (λ w. w) result (weights_in (outer_in (view value.now))) }
 {
@@ -121,7 +121,7 @@ fn outer(alloc: Global, value: &Value) -> Result<Weights, ReadError>
     }
 }
 
-/// What stands outside the events, and those.
+/// The weights, and the events.
 pub fn parts(alloc: Global, text: &[u8]) -> Result<(Weights, Listed), ReadError>
     ensures ok { IfOk result (λ r. trace_of text.now ≡ map_ok (trace_with r.0) (answer r.1)) }
     ensures err { IfErr result (λ e. Fails e (outer_of (value_of text.now))) }
@@ -131,7 +131,7 @@ pub fn parts(alloc: Global, text: &[u8]) -> Result<(Weights, Listed), ReadError>
     Ok((weights, listed))
 }
 
-/// The trace of these weights and events.
+/// The trace with these weights and events.
 pub fn trace(weights: Weights, listed: Listed) -> Result<Trace, TraceFault>
     ensures ok { IfOk result
         (λ t. map_ok (trace_with weights) (answer listed) ≡ Ok (trace_view t)) }

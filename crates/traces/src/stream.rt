@@ -1,6 +1,5 @@
-//! A trace's text, of whose events no more than one is held as a value at a time. Arrays and
-//! objects nest no deeper than 127 in a text, so in a value of its object 126, and in an event's
-//! 125.
+//! Parses a trace's text with at most one event at a time as a JSON value. Arrays and objects nest
+//! at most 127 deep in a text, so 126 in a value of its object, and 125 in an event.
 ghost use Rattle.std.specs.Prelude.{◌≡◌, ◌≢◌, ◌<◌, ◌≤◌, ◌∷◌, length, IfErr, IfOk, IsSome, OnOk, Some, MatchResult, false, option_map};
 ghost use Rattle.std.specs.Bool.{MatchBool};
 ghost use Rattle.json.specs.Json.{read_key};
@@ -13,7 +12,7 @@ ghost use Rattle.json.specs.Value.{value_view};
 ghost use Rattle.serde_json.specs.Read.{number_of, of_json, read as read_text};
 ghost use Rattle.serde_json.specs.View.{members_view, view};
 ghost use Rattle.traces.specs.Trace.{value_of};
-ghost use Rattle.events.specs.Events.{event_view};
+ghost use Rattle.protocol.specs.Events.{event_view};
 ghost use Rattle.traces.specs.Events.{event_in};
 ghost use Rattle.traces.specs.inside.Trees.{Reads};
 ghost use Rattle.traces.specs.inside.Given.{Fails, Gives};
@@ -23,13 +22,13 @@ use crate::listed::Listed;
 use crate::read_error::ReadError;
 use crate::reading;
 use crate::tree_event::tree_event;
-use events::Event;
 use json::{Reader, Scratch, Token};
+use protocol::Event;
 use serde_json::{Map, Value, put};
 use std::alloc::Global;
 use std::string::String;
 
-/// The value that the tree stands for.
+/// The value of the tree.
 fn untreed(alloc: Global, tree: &json::Value<'_>) -> Result<Value, ReadError>
     requires numbers { HasNumbers (value_view tree.now) }
     requires nests { nesting (value_view tree.now) ≤ 127 }
@@ -39,7 +38,7 @@ fn untreed(alloc: Global, tree: &json::Value<'_>) -> Result<Value, ReadError>
     reading::value(alloc, text.as_slice())
 }
 
-/// The reader's next value, in which arrays and objects may nest so deep.
+/// The reader's next value, in which arrays and objects may nest this deep.
 fn next_value(alloc: Global, reader: &mut Reader<'_>, depth: usize) -> Result<Value, ReadError>
     requires { depth ≤ 127 }
     ensures ok { IfOk result
@@ -53,7 +52,7 @@ fn next_value(alloc: Global, reader: &mut Reader<'_>, depth: usize) -> Result<Va
     }
 }
 
-/// Why no tree is read.
+/// Why no tree can be parsed.
 fn refused(error: json::Error) -> ReadError
     ensures { result ≡ ReadError.Bad → error ≡ invalid }
 {
@@ -63,7 +62,8 @@ fn refused(error: json::Error) -> ReadError
     }
 }
 
-/// The event that the tree is, if it has a form that is read at once, and an event is wanted.
+/// The event that the tree encodes, if it has a form that is parsed directly, and an event is
+/// expected.
 fn event_at_once(alloc: Global, tree: &json::Value<'_>, listed: &Listed) -> Result<Event, ReadError>
     ensures { IfOk result (λ e. Reads event_in (value_view tree.now) (event_view e)) }
 {
@@ -73,7 +73,7 @@ fn event_at_once(alloc: Global, tree: &json::Value<'_>, listed: &Listed) -> Resu
     }
 }
 
-/// The items so far, and one more, which is the value that the tree stands for.
+/// The items so far and one more, which is the value of the tree.
 fn with_tree(alloc: Global, tree: json::Value<'_>, listed: Listed) -> Result<Listed, ReadError>
     requires numbers { HasNumbers (value_view tree) }
     requires nests { nesting (value_view tree) ≤ 127 }
@@ -94,7 +94,7 @@ fn with_tree(alloc: Global, tree: json::Value<'_>, listed: Listed) -> Result<Lis
     }
 }
 
-/// The items so far, and the reader's next value.
+/// The items so far and one more, which is the reader's next value.
 fn next_listed(
     alloc: Global,
     reader: &mut Reader<'_>,
@@ -114,7 +114,7 @@ fn next_listed(
     }
 }
 
-/// The rest of an array, whose items are to be events.
+/// The rest of an array whose items have to be events.
 fn listed(alloc: Global, reader: &mut Reader<'_>, depth: usize) -> Result<Listed, ReadError>
     requires { depth ≤ 127 }
     ensures ok { IfOk result (ListsAll depth reader.old reader.new) }
@@ -127,7 +127,7 @@ fn listed(alloc: Global, reader: &mut Reader<'_>, depth: usize) -> Result<Listed
     Ok(listed)
 }
 
-/// The next member's key, or none at the end of the object.
+/// The next member's key, or None at the end of the object.
 fn next_key<'a>(reader: &mut Reader<'a>) -> Result<Option<&'a str>, ReadError>
     ensures { MatchResult result
         (λ k. read_key reader.old ≡ Some (option_map (λ s. s.now) k, reader.new))
@@ -139,7 +139,7 @@ fn next_key<'a>(reader: &mut Reader<'a>) -> Result<Option<&'a str>, ReadError>
     }
 }
 
-/// Passes over the reader's next value.
+/// Skips the reader's next value.
 fn pass_value(alloc: Global, reader: &mut Reader<'_>, depth: usize) -> Result<(), ReadError>
     requires { depth ≤ 127 }
     ensures ok { OnOk result (PassesValue depth reader.old reader.new) }
@@ -149,7 +149,7 @@ fn pass_value(alloc: Global, reader: &mut Reader<'_>, depth: usize) -> Result<()
     Ok(())
 }
 
-/// Passes over the rest of an object.
+/// Skips the rest of an object.
 fn pass_members(alloc: Global, reader: &mut Reader<'_>, depth: usize) -> Result<(), ReadError>
     requires { depth ≤ 127 }
     ensures ok { OnOk result (PassesMembers depth reader.old reader.new) }
@@ -161,7 +161,7 @@ fn pass_members(alloc: Global, reader: &mut Reader<'_>, depth: usize) -> Result<
     Ok(())
 }
 
-/// Whether the number is one that is not too large.
+/// Tests whether the number is in range.
 fn pass_number(alloc: Global, text: &str) -> Result<(), ReadError>
     requires { IsNumber text.now }
     ensures ok { OnOk result (IsSome (number_of text.now)) }
@@ -171,7 +171,7 @@ fn pass_number(alloc: Global, text: &str) -> Result<(), ReadError>
     Ok(())
 }
 
-/// Passes over the value that begins with the token, which is no array.
+/// Skips the value that begins with the token, which must not begin an array.
 fn pass(alloc: Global, reader: &mut Reader<'_>, token: Token<'_>) -> Result<(), ReadError>
     requires number { token ≢ Token.Bad → IsPrintable (token_of token) }
     requires no_array { token ≢ Token.BeginArray }
@@ -241,7 +241,7 @@ fn members(
     Ok((members, listed))
 }
 
-/// Takes the reader's next token, and answers if an object begins with it.
+/// Takes the reader's next token, and returns whether it begins an object.
 fn opens_object(reader: &mut Reader<'_>) -> bool
     ensures { MatchBool result (reader.old ≡ begin_object ∷ reader.new)
         (opens_object reader.old ≡ false) }
@@ -249,7 +249,7 @@ fn opens_object(reader: &mut Reader<'_>) -> bool
     matches!(reader.next(), Some(Token::BeginObject))
 }
 
-/// What is kept of the object that the whole of the reader is.
+/// What is kept of the object that is the rest of the reader's text.
 fn last_object(alloc: Global, reader: &mut Reader<'_>) -> Result<(Value, Listed), ReadError>
     ensures ok { IfOk result (λ r. KeepsWhole (whole_read reader.old) r.0 r.1) }
     ensures err { IfErr result (λ e. Fails e (outer_of (whole_read reader.old))) }
@@ -264,7 +264,7 @@ fn last_object(alloc: Global, reader: &mut Reader<'_>) -> Result<(Value, Listed)
     Ok((Value::Object(members), listed))
 }
 
-/// What is kept of the object that the text is.
+/// What is kept of the object that the text encodes.
 fn whole(alloc: Global, text: &str) -> Result<(Value, Listed), ReadError>
     ensures ok { IfOk result (λ r. KeepsWhole (read_text text.now) r.0 r.1) }
     ensures err { IfErr result (λ e. Fails e (outer_of (read_text text.now))) }
@@ -274,7 +274,7 @@ fn whole(alloc: Global, text: &str) -> Result<(Value, Listed), ReadError>
     last_object(alloc, &mut reader)
 }
 
-/// What is kept of the object that the text is, if it is one in UTF-8.
+/// What is kept of the object that the text encodes, if it is one in UTF-8.
 pub fn object(alloc: Global, text: &[u8]) -> Result<(Value, Listed), ReadError>
     ensures ok { IfOk result (λ r. KeepsWhole (value_of text.now) r.0 r.1) }
     ensures err { IfErr result (λ e. Fails e (outer_of (value_of text.now))) }

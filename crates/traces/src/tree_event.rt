@@ -1,10 +1,10 @@
-//! Events of which a text's tree has the members in order of their keys, as they are written. They
-//! are read from the tree at once; for all others there is `event`, over a value of `serde_json`.
-//! What has another form is `Bad` here, whether it is an event or not.
+//! Events whose members, in the text's tree, are in the order of their keys, as they are written.
+//! They are parsed from the tree directly; all others are parsed by `event`, from a value of
+//! `serde_json`. Any other form is `Bad` here, even if it is an event.
 ghost use Rattle.std.specs.Prelude.{◌≡◌, ◌≤◌, ℕ, IfOk, IfSome, OnOk};
 ghost use Rattle.json.specs.Json.{string};
 ghost use Rattle.json.specs.Value.{value_view};
-ghost use Rattle.events.specs.Events.{event_view};
+ghost use Rattle.protocol.specs.Events.{event_view};
 ghost use Rattle.package_record.specs.FileView.{file_view};
 ghost use Rattle.traces.specs.Events.{event_in};
 ghost use Rattle.traces.specs.Fields.{file_in, files_in, number_of};
@@ -13,17 +13,17 @@ ghost use Rattle.traces.specs.inside.Trees.{Reads, five, four, path_in, three, t
 use crate::event::alone;
 use crate::fields::{bytes_of, path_of};
 use crate::read_error::ReadError;
-use events::Event;
 use json::Value;
 use package_record::{File, Files};
 use pkgpath::PkgPath;
+use protocol::Event;
 use std::alloc::Global;
 
 /// A member of an object: its key and value.
 type Member<'a> = (&'a str, Value<'a>);
 
-/// The event that the tree is, where its members stand in order of their keys, and it is a nudge, a
-/// delivery, a build of one package, or a claim.
+/// The event that the tree encodes, if its members are in the order of their keys, and it is a
+/// nudge, a delivery, a build of one package, or a claim.
 pub fn tree_event(alloc: Global, tree: &Value<'_>) -> Result<Event, ReadError>
     ensures { IfOk result (λ e. Reads event_in (value_view tree.now) (event_view e)) }
 {
@@ -50,7 +50,7 @@ fn nudge(first: &Member<'_>, second: &Member<'_>) -> Result<Event, ReadError>
     Ok(Event::Nudge { node })
 }
 
-/// A datagram comes to a node.
+/// A datagram is delivered to a node.
 fn delivery(first: &Member<'_>, second: &Member<'_>, third: &Member<'_>) -> Result<Event, ReadError>
     ensures { IfOk result
         (λ e. Reads event_in (three first.now second.now third.now) (event_view e)) }
@@ -64,7 +64,7 @@ fn delivery(first: &Member<'_>, second: &Member<'_>, third: &Member<'_>) -> Resu
     Ok(Event::Deliver { datagram, node })
 }
 
-/// The event's own path is the one package that was built.
+/// The only package that was built has the event's own path.
 fn build(
     alloc: Global,
     first: &Member<'_>,
@@ -135,8 +135,8 @@ fn read_files(alloc: Global, value: &Value<'_>) -> Result<Files, ReadError>
     Ok(Files::new(files))
 }
 
-/// Refuses an array of which an item has another form than a file's, so that no memory is asked for
-/// and no file is read.
+/// Refuses an array with an item that doesn't have the form of a file, before allocating memory or
+/// parsing a file.
 fn test_files(value: &Value<'_>) -> Result<(), ReadError> {
     let Value::Array(items) = value else {
         return Err(ReadError::Bad);
@@ -149,7 +149,7 @@ fn test_files(value: &Value<'_>) -> Result<(), ReadError> {
     Ok(())
 }
 
-/// Whether it is an object of two texts, with the keys of a file in order.
+/// Whether the value is an object of two texts, with the keys of a file in order.
 fn has_file_form(value: &Value<'_>) -> bool {
     let Value::Object(members) = value else {
         return false;
@@ -178,7 +178,7 @@ fn read_file(alloc: Global, value: &Value<'_>) -> Result<File, ReadError>
     }
 }
 
-/// A file of these bytes and this name.
+/// The file with these bytes and this name.
 fn named(alloc: Global, first: &Member<'_>, second: &Member<'_>) -> Result<File, ReadError>
     ensures { IfOk result (λ file. Reads file_in (two first.now second.now) (file_view file)) }
 {
@@ -189,7 +189,7 @@ fn named(alloc: Global, first: &Member<'_>, second: &Member<'_>) -> Result<File,
     Ok(File { name, bytes })
 }
 
-/// The path that the value spells.
+/// The path that the value encodes.
 fn path(alloc: Global, value: &Value<'_>) -> Result<PkgPath, ReadError>
     ensures { IfOk result (Reads path_in (value_view value.now)) }
 {
@@ -219,7 +219,7 @@ fn test_text(value: &Value<'_>, wanted: &str) -> Result<(), ReadError>
     }
 }
 
-/// The text that the value is.
+/// The text of the value.
 fn text<'v, 'a>(value: &'v Value<'a>) -> Result<&'a str, ReadError>
     ensures { IfOk result (λ text. value_view value.entry.now ≡ string text.now) }
 {
@@ -229,7 +229,7 @@ fn text<'v, 'a>(value: &'v Value<'a>) -> Result<&'a str, ReadError>
     }
 }
 
-/// A whole number that is no more than this, and written in digits alone.
+/// A nonnegative integer of at most this value, written only in digits.
 fn number(value: &Value<'_>, most: u64) -> Result<u64, ReadError>
     ensures reads { IfOk result (Reads (number_of most) (value_view value.now)) }
     ensures most { IfOk result (λ n. n ≤ most) }
@@ -240,7 +240,7 @@ fn number(value: &Value<'_>, most: u64) -> Result<u64, ReadError>
     }
 }
 
-/// A whole number of 64 bits that is written in digits alone.
+/// A nonnegative integer of 64 bits, written only in digits.
 fn small(value: &Value<'_>) -> Option<u64>
     ensures { IfSome result (λ n. (most : ℕ) → n ≤ most
         → Reads (number_of most) (value_view value.now) n) }

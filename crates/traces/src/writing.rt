@@ -1,6 +1,6 @@
 //! Traces as JSON values.
 ghost use Rattle.std.specs.Prelude.{◌≡◌, IfOk, codes, map};
-ghost use Rattle.events.specs.Events.{event_view};
+ghost use Rattle.protocol.specs.Events.{event_view};
 ghost use Rattle.package_record.specs.FileView.{file_view};
 ghost use Rattle.serde_json.specs.View.{members_view, view};
 ghost use Rattle.traces.specs.Faults.{trace_view};
@@ -32,11 +32,10 @@ ghost use Rattle.traces.specs.Written.{
 use crate::Trace;
 use crate::event::own_files;
 use crate::reading::are_ones;
-use events::{Event, Left};
 use faults::Memory;
 use package_record::{File, Files};
 use pkgpath::PkgPath;
-use protocol::Packages;
+use protocol::{Event, Left, Packages};
 use serde_json::{Map, Value, put};
 use std::alloc::Global;
 use std::string::String;
@@ -57,7 +56,7 @@ fn word(alloc: Global, letters: &str) -> Result<Value, Memory>
     Ok(Value::String(word))
 }
 
-/// Bytes by their digits.
+/// Bytes, as hexadecimal digits.
 fn hex(alloc: Global, bytes: &[u8]) -> Result<Value, Memory>
     ensures { IfOk result (λ v. view v ≡ hex bytes.now) }
 {
@@ -120,7 +119,7 @@ fn packages(alloc: Global, packages: &Packages) -> Result<Value, Memory>
     Ok(Value::Array(items))
 }
 
-/// What an event of this kind has of a node.
+/// The members of an event of this kind with a node.
 fn node_members(alloc: Global, kind: &str, node: u8) -> Result<Map<String, Value>, Memory>
     ensures { IfOk result (λ m. members_view m.entries ≡ node_members kind.now node) }
 {
@@ -130,14 +129,14 @@ fn node_members(alloc: Global, kind: &str, node: u8) -> Result<Map<String, Value
     Ok(members)
 }
 
-/// An event of this kind, of a node.
+/// An event of this kind with a node.
 fn of_node(alloc: Global, kind: &str, node: u8) -> Result<Value, Memory>
     ensures { IfOk result (λ v. view v ≡ node_data kind.now node) }
 {
     Ok(Value::Object(node_members(alloc, kind, node)?))
 }
 
-/// What an event of this kind has of a node and a path.
+/// The members of an event of this kind with a node and a path.
 fn node_and_path(
     alloc: Global,
     kind: &str,
@@ -151,7 +150,7 @@ fn node_and_path(
     Ok(members)
 }
 
-/// An event of this kind, of a node and a path.
+/// An event of this kind with a node and a path.
 fn of_path(alloc: Global, kind: &str, node: u8, path: &PkgPath) -> Result<Value, Memory>
     ensures { IfOk result (λ v. view v ≡ path_data kind.now node path.now) }
 {
@@ -181,7 +180,7 @@ fn built(alloc: Global, node: u8, path: &PkgPath, given: &Packages) -> Result<Va
     Ok(Value::Object(members))
 }
 
-/// A datagram comes to a node.
+/// A datagram is delivered to a node.
 fn deliver(alloc: Global, datagram: u64, node: u8) -> Result<Value, Memory>
     ensures { IfOk result (λ v. view v ≡ deliver_data datagram node) }
 {
@@ -190,7 +189,7 @@ fn deliver(alloc: Global, datagram: u64, node: u8) -> Result<Value, Memory>
     Ok(Value::Object(members))
 }
 
-/// What a stop inside this step has, but for bytes.
+/// The members of a stop inside this step, without bytes.
 fn stop_members(alloc: Global, input: Value, left: &str) -> Result<Map<String, Value>, Memory>
     ensures { IfOk result (λ m. members_view m.entries ≡ stop_members left.now (view input)) }
 {
@@ -201,7 +200,7 @@ fn stop_members(alloc: Global, input: Value, left: &str) -> Result<Map<String, V
     Ok(members)
 }
 
-/// A stop inside this step that leaves nothing torn.
+/// A stop inside this step that leaves nothing or the whole note.
 fn clean_stop(alloc: Global, input: Value, left: &str) -> Result<Value, Memory>
     ensures { IfOk result (λ v. view v ≡ clean_data left.now (view input)) }
 {
@@ -252,7 +251,7 @@ fn event(alloc: Global, one: &Event) -> Result<Value, Memory>
     }
 }
 
-/// The events, in turn.
+/// The events, in order.
 fn events(alloc: Global, all: &[Event]) -> Result<Value, Memory>
     ensures { IfOk result (λ v. view v ≡ list_data (map event_data (map event_view all.now))) }
 {
@@ -274,7 +273,7 @@ fn weights(alloc: Global, all: &[u8]) -> Result<Value, Memory>
     Ok(Value::Array(items))
 }
 
-/// What a trace has, but for weights.
+/// The members of a trace without weights.
 fn plain_members(alloc: Global, trace: &Trace) -> Result<Map<String, Value>, Memory>
     ensures { IfOk result (λ m. members_view m.entries ≡ plain_members (trace_view trace.now)) }
 {

@@ -1,4 +1,4 @@
--- Hosts that are read one after the other.
+-- Hosts that are parsed one after the other.
 use Rattle.std.proofs.Common.{◌≡◌, ◌≢◌, ◌<◌, ◌≤◌, ◌+◌, ◌∙◌, ℕ, List, [], ◌∷◌, ◌++◌, Some, Bor, inl, inr, length, map, get_or, slice_get, take, refl, sym, ap, subst, arith}
 use Rattle.std.specs.List.{Contains}
 use Rattle.std.proofs.lemmas.List.{length-map}
@@ -21,7 +21,7 @@ pub no_host-no_address : (part : Text) → ((a : SocketAddrV4) → ¬ (IsSocketV
 no_host-no_address part none (V4 a) h = none a h.0
 no_host-no_address part none (V6 a) h = absurd h
 
--- nor does one that writes an address with port 0
+-- nor does a part that writes an address with port 0
 pub no_host-port_0 : (part : Text) (a : SocketAddrV4) → IsSocketV4Text part a → v4_port a ≡ 0 → (host : SocketAddr) → ¬ (IsHostText part host)
 no_host-port_0 part a written zero (V4 b) h =
     let same : v4_port b ≡ 0 = sym (ap (λ (x : SocketAddrV4). v4_port x) (IsSocketV4Text_unique part a b written h.0)) ∙ zero in
@@ -29,13 +29,13 @@ no_host-port_0 part a written zero (V4 b) h =
     omega arith
 no_host-port_0 part a written zero (V6 b) h = absurd h
 
--- nor does one that writes 0.0.0.0
+-- nor does a part that writes 0.0.0.0
 pub no_host-unspecified : (part : Text) (a : SocketAddrV4) → IsSocketV4Text part a → IsUnspecifiedV4 (v4_ip a) → (host : SocketAddr) → ¬ (IsHostText part host)
 no_host-unspecified part a written none (V4 b) h =
     h.2 (subst (λ (x : SocketAddrV4). IsUnspecifiedV4 (v4_ip x)) (IsSocketV4Text_unique part a b written h.0) none)
 no_host-unspecified part a written none (V6 b) h = absurd h
 
--- a part writes one host at most
+-- a part writes at most one host
 IsHostText-unique : (part : Text) (a b : SocketAddr) → IsHostText part a → IsHostText part b → a ≡ b
 IsHostText-unique part (V4 a) (V4 b) h k = ap V4 (IsSocketV4Text_unique part a b h.0 k.0)
 IsHostText-unique part (V4 a) (V6 b) h k = absurd k
@@ -46,14 +46,14 @@ pub WritesNoOther-again : (earlier : List SocketAddr) (part : Text) (host : Sock
 WritesNoOther-again earlier part host written among other h =
     subst (Contains earlier) (IsHostText-unique part host other written h) among
 
--- one host more
+-- one more host
 pub WriteHosts-more : (parts : List Text) (hosts : List SocketAddr) (part : Text) (host : SocketAddr) → WriteHosts parts hosts → IsHostText part host → ¬ (Contains hosts host) → WriteHosts (parts ++ part ∷ []) (hosts ++ host ∷ [])
 WriteHosts-more parts hosts part host so_far written new = record {
   each = all_zipped_more IsHostText parts hosts part host so_far.each written;
   once = all_pairs_push (λ a b. a ≢ b) hosts host so_far.once (λ k d in_list same. new (subst (Contains hosts) same (Contains-get_or hosts k d in_list)));
 }
 
--- The hosts so far are those of the parts that came.
+-- The hosts so far are those of the parts so far.
 module _ (members : ℕ) (parts : List Text) (yielded : List (Bor Text)) (hosts : List SocketAddr) where
   pub one_each : WriteHosts (map (λ x. x.now) yielded) hosts → length hosts ≡ length yielded
   one_each so_far = AllZip-long IsHostText (map (λ x. x.now) yielded) hosts so_far.each ∙ length-map yielded (λ x. x.now)
@@ -67,7 +67,7 @@ module _ (members : ℕ) (parts : List Text) (yielded : List (Bor Text)) (hosts 
     bad = bad;
   }
 
-  -- one too many
+  -- one part too many
   pub too_many : map (λ x. x.now) yielded ≡ take (length yielded) parts → WriteHosts (map (λ x. x.now) yielded) hosts → length hosts ≤ members → (place : ℕ) → place ≡ length hosts → length yielded < length parts → members ≤ length hosts → IsFirstBad members parts (place + 1)
   too_many front so_far few place here more full =
       let long = one_each so_far in
@@ -75,7 +75,7 @@ module _ (members : ℕ) (parts : List Text) (yielded : List (Bor Text)) (hosts 
       let all : length hosts ≡ members = omega arith in
       bad_behind front so_far few place here (inr (inl (further, all)))
 
-  -- no other host
+  -- a part that writes no other host
   pub no_other : map (λ x. x.now) yielded ≡ take (length yielded) parts → WriteHosts (map (λ x. x.now) yielded) hosts → length hosts ≤ members → (place : ℕ) → place ≡ length hosts → (part : Text) → length yielded < length parts → part ≡ get_or parts (length yielded) part → WritesNoOther hosts part → IsFirstBad members parts (place + 1)
   no_other front so_far few place here part more at none =
       let long = one_each so_far in
@@ -85,7 +85,7 @@ module _ (members : ℕ) (parts : List Text) (yielded : List (Bor Text)) (hosts 
         none,
       )))
 
-  -- too few
+  -- too few parts
   pub lacking : map (λ x. x.now) yielded ≡ take (length yielded) parts → WriteHosts (map (λ x. x.now) yielded) hosts → (place : ℕ) → place ≡ length hosts → length yielded ≡ length parts → length hosts < members → IsFirstBad members parts (place + 1)
   lacking front so_far place here all less =
       let long = one_each so_far in

@@ -1,4 +1,4 @@
--- Texts that came.
+-- Lemmas about received texts.
 use Rattle.std.proofs.Common.{◌≡◌, ◌∙◌, ℕ, Bool, true, false, ◌&&◌, ◌||◌, List, [], ◌∷◌, ◌++◌, Err, Ok, OnErr, Option, Result, ap, refl, sym}
 use Rattle.std.proofs.Math.Bool.{or-true}
 use Rattle.std.proofs.lemmas.List.Folds.{list_all-append, list_any-append}
@@ -10,12 +10,12 @@ use Rattle.udp.specs.Inbox.{GoesOn, InboxState, Takes, came_as, is_vouched_for}
 use Rattle.udp.specs.Ways.{in_line}
 use Rattle.udp.specs.declared.line.Waiting.{Waiting}
 
--- both tests are passed, where their `&&` is
+-- both tests hold if their `&&` does
 both : (a b : Bool) → (a && b) ≡ true → (a ≡ true) × (b ≡ true)
 both true b h = (refl, h)
 both false b h = absurd (cc h)
 
--- each passes a test that follows
+-- a test that follows from another holds of all that the other holds of
 all_follow : {X : Type 0} (p q : X → Bool) → ((x : X) → p x ≡ true → q x ≡ true) → (xs : List X) → list_all p xs ≡ true → list_all q xs ≡ true
 all_follow p q follows [] h = refl
 all_follow p q follows (x ∷ xs) h =
@@ -29,31 +29,32 @@ among_more : (came : List Text) (bytes t : Text) → is_among came t ≡ true �
 among_more came bytes t there =
     list_any-append (λ u. bytes_eq u t) came (bytes ∷ []) ∙ ap (λ b. b || is_among (bytes ∷ []) t) there
 
--- a text is the same as itself
+-- `bytes_eq` is reflexive
 same_bytes : (t : Text) → bytes_eq t t ≡ true
 same_bytes t = nat_list_eq_equiv.refl t
 
--- what came last is among what came
+-- the last received bytes are among those received
 among_last : (came : List Text) (bytes : Text) → is_among (came ++ bytes ∷ []) bytes ≡ true
 among_last came bytes =
     list_any-append (λ u. bytes_eq u bytes) came (bytes ∷ [])
     ∙ (ap (λ b. is_among came bytes || (b || false)) (same_bytes bytes) ∙ or-true (is_among came bytes))
 
 module _ (key : Option Text) (came : List Text) where
-  -- What waits still came, once more has come.
+  -- The queued texts are vouched for after one more datagram was received.
   still_vouched_for : (waiting : List (ℕ × Text)) (bytes : Text) → list_all (λ w. is_vouched_for key came w.1) waiting ≡ true → list_all (λ w. is_vouched_for key (came ++ bytes ∷ []) w.1) waiting ≡ true
   still_vouched_for waiting bytes before =
       all_follow (λ (w : ℕ × Text). is_vouched_for key came w.1) (λ (w : ℕ × Text). is_vouched_for key (came ++ bytes ∷ []) w.1)
       (λ w. among_more came bytes (came_as key w.1)) waiting before
 
-  -- One more came, and its text waits behind the others: they all came.
+  -- The text of one more datagram is appended to the queue: all of them are vouched for.
   one_more : (waiting : List (ℕ × Text)) (bytes text : Text) (node : ℕ) → bytes ≡ came_as key text → list_all (λ w. is_vouched_for key came w.1) waiting ≡ true → list_all (λ w. is_vouched_for key (came ++ bytes ∷ []) w.1) (waiting ++ (node, text) ∷ []) ≡ true
   one_more waiting bytes text node is before =
       let old = still_vouched_for waiting bytes before in
       let new : is_vouched_for key (came ++ bytes ∷ []) text ≡ true = ap (is_among (came ++ bytes ∷ [])) (sym is) ∙ among_last came bytes in
       list_all-append (λ (w : ℕ × Text). is_vouched_for key (came ++ bytes ∷ []) w.1) waiting ((node, text) ∷ []) ∙ rw (old, new)
 
-  -- One more came, whether its text was put behind the others or found no room: what waits came.
+  -- One more datagram was received, and its text was queued or found no room: the queued texts are
+  -- vouched for.
   pub put_or_not : {E : Type 0} (old new : List (Waiting ℕ)) (bytes text : Text) (node : ℕ) (r : Result Bool E) → (r ≡ Ok true → in_line new ≡ in_line old ++ (node, text) ∷ []) → (r ≡ Ok false → new ≡ old) → OnErr r (new ≡ old) → bytes ≡ came_as key text → list_all (λ w. is_vouched_for key came w.1) (in_line old) ≡ true → list_all (λ w. is_vouched_for key (came ++ bytes ∷ []) w.1) (in_line new) ≡ true
   put_or_not old new bytes text node (Ok true) put full err is before =
       rw (put refl) (one_more (in_line old) bytes text node is before)
@@ -62,24 +63,24 @@ module _ (key : Option Text) (came : List Text) where
   put_or_not old new bytes text node (Err e) put full err is before =
       rw err (still_vouched_for (in_line old) bytes before)
 
--- ---- on and on
+-- ---- `GoesOn`
 
 -- nothing changed
 pub GoesOn-same : (old new : InboxState) → new ≡ old → GoesOn old new
 GoesOn-same old new same = rw same (record { key = refl; vouched = λ text h. h })
 
--- nor does what stays
+-- reflexivity
 pub goes_on_still : (inbox : InboxState) → GoesOn inbox inbox
 goes_on_still inbox = record { key = refl; vouched = λ text h. h }
 
--- and then more
+-- transitivity
 pub GoesOn-more : (old between new : InboxState) → GoesOn old between → GoesOn between new → GoesOn old new
 GoesOn-more old between new first second = record {
   key = second.key ∙ first.key;
   vouched = λ text h. second.vouched text (first.vouched text h);
 }
 
--- these bytes came
+-- these bytes were received
 pub GoesOn-takes : (old new : InboxState) (bytes text : Text) → Takes old new bytes text → GoesOn old new
 GoesOn-takes old new bytes text took = record {
   key = took.key;

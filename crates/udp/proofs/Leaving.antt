@@ -1,4 +1,4 @@
--- What waits to leave gets less.
+-- The outgoing queue shrinks.
 use Rattle.std.proofs.Common.{◌≡◌, ◌≢◌, ◌<◌, ◌∙◌, ◌++◌, List, [], ◌∷◌, inl, inr, length, refl, sym, ap, append_assoc, arith}
 use Rattle.std.specs.List.Sorted.{IsPermutation}
 use Rattle.std.proofs.lemmas.List.{append-nil, map-append}
@@ -12,22 +12,22 @@ use Rattle.udp.specs.declared.sockets.Way.{Way}
 pub HandsOver-taken : (waiting new : List (Waiting Way)) (handed now : List Text) (w : Waiting Way) → waiting ≡ w ∷ new → now ≡ handed ++ w.bytes.items ∷ [] → HandsOver waiting handed new now
 HandsOver-taken waiting new handed now w is noted = rw is (refl, noted)
 
--- none waited
+-- the queue was empty
 pub HandsOver-none : (waiting new : List (Waiting Way)) (handed : List Text) → waiting ≡ [] → waiting ≡ new → HandsOver waiting handed new handed
 HandsOver-none waiting new handed none same = rw none (sym same ∙ none, refl)
 
--- where none waits any more, all was handed over
+-- once the queue is empty, all was handed over
 pub all_handed : (waiting : List (Waiting Way)) (now all : List Text) → waiting ≡ [] → all ≡ now ++ texts_of waiting → now ≡ all
 all_handed waiting now all none same =
     sym (append-nil now) ∙ (ap (λ (w : List (Waiting Way)). now ++ texts_of w) (sym none) ∙ sym same)
 
--- so fewer wait
+-- so the queue is shorter
 pub HandsOver-fewer : (waiting new : List (Waiting Way)) (handed now : List Text) → HandsOver waiting handed new now → waiting ≢ [] → length new < length waiting
 HandsOver-fewer [] new handed now left some = absurd (some refl)
 HandsOver-fewer (w ∷ waiting) new handed now left some =
     let long : length new ≡ length waiting = ap length left.0 in omega (arith, long)
 
--- what was handed over, and behind it what waits, stays
+-- what was handed over and then what is queued stays the same in all
 pub HandsOver-all : (waiting new : List (Waiting Way)) (handed now all : List Text) → HandsOver waiting handed new now → all ≡ handed ++ texts_of waiting → all ≡ now ++ texts_of new
 HandsOver-all [] new handed now all left same = rw (left.0, left.1) same
 HandsOver-all (w ∷ waiting) new handed now all left same =

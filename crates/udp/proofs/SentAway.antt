@@ -1,4 +1,4 @@
--- What leaves a port is what it was told to send.
+-- Only what a port was asked to send leaves it.
 use Rattle.std.proofs.Common.{◌≡◌, ◌⊎◌, ⊎_elim, ◌∙◌, ◌++◌, ℕ, zero, suc, List, [], ◌∷◌, Option, None, Some, Result, Ok, Err, inl, inr, map, refl, sym, ap, subst, append_assoc, slice_get}
 use Rattle.std.specs.List.Sorted.{IsPermutation}
 use Rattle.std.proofs.lemmas.Bool.{cases_eq}
@@ -6,8 +6,8 @@ use Rattle.std.proofs.lemmas.List.{append-nil, map-append}
 use Rattle.std.proofs.lemmas.List.Sorted.{IsPermutation-append_left, IsPermutation-append_right, IsPermutation-map, IsPermutation-refl, IsPermutation-trans}
 use Rattle.std.specs.declared.net.socket_addr.SocketAddr.{SocketAddr}
 use Rattle.faults.specs.Bytes.{Text}
-use Rattle.ports.specs.Calls.{Call, Received, Sent, WentThrough}
-use Rattle.ports.specs.Kept.{Parcel}
+use Rattle.datagram_ports.specs.Calls.{Call, Received, Sent, WentThrough}
+use Rattle.datagram_ports.specs.Kept.{Parcel}
 use Rattle.udp.specs.Calls.{AreSentAway, DoesOverUdp, IsSamePort, LeavesWhatIsSent, Setup, out_of}
 use Rattle.udp.specs.Inbox.{came_as}
 use Rattle.udp.specs.Leaving.{IsLeft, texts_of}
@@ -25,7 +25,7 @@ same_self p = record { setup = refl; heard = refl; sent = refl }
 same_on : {C : Type 0} (a b c : UdpPort C) → IsSamePort a b → IsSamePort b c → IsSamePort a c
 same_on a b c p q = record { setup = q.setup ∙ p.setup; heard = q.heard ∙ p.heard; sent = q.sent ∙ p.sent }
 
--- what is sent away by the seats and key of the port afterwards is so by those before
+-- the texts sent away are the same by the seats and key before and after
 sent_before : {C : Type 0} (old new : UdpPort C) (calls : List Call) (texts : List Text) → IsSamePort old new
     → AreSentAway new.seats.items new.outbox.key calls texts → AreSentAway old.seats.items old.outbox.key calls texts
 sent_before old new calls texts same sent =
@@ -51,9 +51,9 @@ seat_or_none (s ∷ seats) node = ⊎_elim
     (seat_or_none seats node))
     (cases_eq s.node node)
 
--- ---- what is out
+-- ---- texts handed over or queued
 
--- what was handed over no longer waits
+-- what was handed over is no longer queued
 left_out : (waiting new : List (Waiting Way)) (handed now : List Text) → IsLeft waiting handed new now
     → IsPermutation (handed ++ texts_of waiting) (now ++ texts_of new)
 left_out waiting new handed now left =
@@ -70,7 +70,7 @@ texts_in_line : (ws : List (Waiting Way)) → map (λ (x : Way × Text). x.1) (i
 texts_in_line [] = refl
 texts_in_line (w ∷ ws) = ap (λ (t : List Text). w.bytes.items ∷ t) (texts_in_line ws)
 
--- what leaves by a way waits behind the others
+-- a text that leaves by a way is appended to the queue
 leaves_text : (seats : List Seat) (addresses : List SocketAddr) (from to : ℕ) (text : Text) (old new : List (Waiting Way))
     → LeavesBy seats addresses from to text old new → texts_of new ≡ texts_of old ++ text ∷ []
 leaves_text seats addresses from to text old new h =
@@ -79,14 +79,14 @@ leaves_text seats addresses from to text old new h =
     ∙ (map-append (λ (x : Way × Text). x.1) (in_line old) ((h.0, text) ∷ [])
     ∙ ap (λ (t : List Text). t ++ text ∷ []) (texts_in_line old)))
 
--- where nothing was handed over and nothing more waits, all that is out was so before
+-- if nothing was handed over or queued, these texts are unchanged
 out_same : {C : Type 0} (old new : UdpPort C) → new.handed.all ≡ old.handed.all
     → new.leaving.waiting.items ≡ old.leaving.waiting.items → out_of new ≡ out_of old
 out_same old new handed waiting =
     ap (λ (t : List Text). t ++ texts_of new.leaving.waiting.items) handed
     ∙ ap (λ (w : List (Waiting Way)). old.handed.all ++ texts_of w) waiting
 
--- and else one text more
+-- otherwise there is one more text
 out_more : {C : Type 0} (old new : UdpPort C) (text : Text) → new.handed.all ≡ old.handed.all
     → texts_of new.leaving.waiting.items ≡ texts_of old.leaving.waiting.items ++ text ∷ []
     → out_of new ≡ out_of old ++ text ∷ []
@@ -97,7 +97,7 @@ out_more old new text handed texts =
 
 -- ---- calls
 
--- a call that sends nothing away, and those behind it
+-- a call that sends nothing away, and the calls after it
 nothing_more : {C : Type 0} (old between new : UdpPort C) (call : Call) (calls : List Call) → IsSamePort old between
     → IsPermutation (out_of old) (out_of between)
     → ((texts : List Text) → AreSentAway old.seats.items old.outbox.key calls texts
@@ -111,7 +111,7 @@ nothing_more old between new call calls same moved sends behind = record {
       (IsPermutation-append_left behind.texts (out_of old) (out_of between) moved) behind.out;
 }
 
--- one that sends a text away, and those behind it
+-- a call that sends a text away, and the calls after it
 one_more_text : {C : Type 0} (old between new : UdpPort C) (parcel : Parcel) (u : Unit {0}) (calls : List Call) → IsSamePort old between
     → HasNoSeat old.seats.items parcel.to
     → out_of between ≡ out_of old ++ came_as old.outbox.key parcel.text ∷ []
@@ -127,7 +127,7 @@ one_more_text old between new parcel u calls same none more behind =
       out = subst (λ (l : List Text). IsPermutation l (out_of new)) joined behind.out;
     }
 
--- where the port is another name for the one before, nothing moved
+-- if these texts are unchanged, they are a permutation of themselves
 moved_none : {C : Type 0} (old new : UdpPort C) → out_of new ≡ out_of old → IsPermutation (out_of old) (out_of new)
 moved_none old new same =
     subst (λ (l : List Text). IsPermutation (out_of old) l) (sym same) (IsPermutation-refl (out_of old))

@@ -1,9 +1,9 @@
--- A member's tally that goes on.
+-- One member's tally changes.
 use Rattle.std.proofs.Common.{◌≡◌, ◌<◌, ◌≤◌, ℕ, zero, suc, List, [], ◌∷◌, ap, arith, get_or, length, refl, set}
 use Rattle.udp.specs.Tallies.{with_tally}
 use Rattle.udp.specs.declared.tallies.Tally.{Tally}
 
--- it is put in its place
+-- it is put at its place
 pub with_tally-set : (goes : Tally → Tally) (member : ℕ) (tallies : List Tally) (d tally : Tally) → member < length tallies → tally ≡ get_or tallies member d → set tallies member (goes tally) ≡ with_tally goes member tallies
 with_tally-set goes member [] d tally in_list at = absurd (omega arith)
 with_tally-set goes zero (t ∷ tallies) d tally in_list at = ap (λ (x : Tally). goes x ∷ tallies) at

@@ -2,17 +2,18 @@
 use Rattle.std.specs.Prelude.{◌≡◌, ◌⊎◌, ◌++◌, ℕ, Bool, IsPermutation, List, [], ◌∷◌, Option, Result, Ok, Err}
 use Rattle.std.specs.declared.net.socket_addr.SocketAddr.{SocketAddr}
 use Rattle.faults.specs.Bytes.{Text}
-use Rattle.ports.specs.Calls.{Call, Received, Sent, WentThrough}
-use Rattle.ports.specs.Kept.{Parcel}
-use Rattle.ports.specs.declared.fault.PortFault.{PortFault}
+use Rattle.datagram_ports.specs.Calls.{Call, Received, Sent, WentThrough}
+use Rattle.datagram_ports.specs.Kept.{Parcel}
+use Rattle.datagram_ports.specs.declared.fault.PortFault.{PortFault}
 use Rattle.udp.specs.Inbox.{came_as}
 use Rattle.udp.specs.Leaving.{IsLeft, texts_of}
 use Rattle.udp.specs.Ways.{HasNoSeat, HasWay, IsSeatOf, LeavesBy}
 use Rattle.udp.specs.declared.sockets.Seat.{Seat}
 use Rattle.udp.specs.declared.udp_port.UdpPort.{UdpPort}
 
--- Where nodes sit and members listen, and whom the port hears: datagrams of at most so many bytes,
--- of others than the members or not, and what a request begins with.
+-- A port's configuration: the seats of the nodes here, the members' addresses, the maximum length
+-- of a datagram in bytes, whether datagrams from other addresses are accepted, and what a request
+-- begins with.
 pub record Setup : Type 0 where
   pub seats : List Seat
   pub addresses : List SocketAddr
@@ -29,21 +30,21 @@ setup_of p = record {
   front = p.front;
 }
 
--- It is the same port: so set up, and under this key.
+-- It is the same port: its configuration and keys are unchanged.
 pub record IsSamePort {C : Type 0} (old new : UdpPort C) : Type 0 where
   pub setup : setup_of new ≡ setup_of old
   pub heard : new.inbox.key ≡ old.inbox.key
   pub sent : new.outbox.key ≡ old.outbox.key
 
--- Of those that waited to leave some were handed to the system, each once, and the others wait.
+-- Some of the queued datagrams were handed to the system, each once, and the others stay queued.
 pub record LetsLeave {C : Type 0} (old new : UdpPort C) : Type 0 where
   pub same : IsSamePort old new
   pub left : IsLeft old.leaving.waiting.items old.handed.all new.leaving.waiting.items
       new.handed.all
 
--- What is taken goes from a node here to a member. For a node of another process it waits behind
--- the others, as it leaves under the key; for one that is here nothing more waits, and neither
--- where it is refused.
+-- An accepted datagram has a way from a node here to a member. If it is for a node of another
+-- process, it is appended to the queue as it leaves under the key. If it is for a node here, or is
+-- refused, the queue is unchanged.
 abbrev pub TakesIn : {C : Type 0} → UdpPort C → Parcel → Result (Unit {0}) PortFault → UdpPort C
     → Type 0
 TakesIn old parcel (Ok u) new =
@@ -55,7 +56,7 @@ TakesIn old parcel (Ok u) new =
     → new.leaving.waiting.items ≡ old.leaving.waiting.items)
 TakesIn old parcel (Err f) new = new.leaving.waiting.items ≡ old.leaving.waiting.items
 
--- So a datagram was offered, and nothing that waits was handed to the system.
+-- A datagram was offered, and none of the queued ones was handed to the system.
 pub record IsOffered {C : Type 0} (old : UdpPort C) (parcel : Parcel)
     (answer : Result (Unit {0}) PortFault) (new : UdpPort C) : Type 0 where
   pub same : IsSamePort old new
@@ -67,8 +68,8 @@ abbrev pub DoesOverUdp : {C : Type 0} → UdpPort C → Call → UdpPort C → T
 DoesOverUdp old (Received answer) new = LetsLeave old new
 DoesOverUdp old (Sent parcel answer) new = IsOffered old parcel answer new
 
--- These texts leave by the calls, in order: of each send that was taken for a node of another
--- process the text, as it leaves under the key, and nothing else.
+-- The calls send these texts away, in order: for each accepted send to a node of another process
+-- its text, as it leaves under the key, and nothing else.
 abbrev pub AreSentAway : List Seat → Option Text → List Call → List Text → Type 0
 AreSentAway seats key [] texts = texts ≡ []
 AreSentAway seats key (Received answer ∷ calls) texts = AreSentAway seats key calls texts
@@ -79,12 +80,12 @@ AreSentAway seats key (Sent parcel (Ok u) ∷ calls) texts =
     × ((more : List Text) × (texts ≡ came_as key parcel.text ∷ more)
     × AreSentAway seats key calls more))
 
--- what was handed to the system, and what waits to leave
+-- the texts handed to the system, and then the queued ones
 abbrev pub out_of : {C : Type 0} → UdpPort C → List Text
 out_of p = p.handed.all ++ texts_of p.leaving.waiting.items
 
--- Nothing leaves the port but what the calls send: it is the same port, and what was handed to the
--- system or waits is what was or did so before, and what they send away, each once.
+-- Nothing leaves the port except what the calls send. The port is the same, and the texts handed
+-- over or queued are those from before and those that the calls send away, each once.
 pub record LeavesWhatIsSent {C : Type 0} (old : UdpPort C) (calls : List Call) (new : UdpPort C)
     : Type 0 where
   pub same : IsSamePort old new
@@ -92,7 +93,7 @@ pub record LeavesWhatIsSent {C : Type 0} (old : UdpPort C) (calls : List Call) (
   pub sent : AreSentAway old.seats.items old.outbox.key calls texts
   pub out : IsPermutation (out_of old ++ texts) (out_of new)
 
--- Law: so it is of a port that went through these calls.
+-- Law: this holds of any port that went through these calls.
 abbrev pub CallsLeaveWhatIsSent : Type 0 → Type 0
 CallsLeaveWhatIsSent C = (old new : UdpPort C) (calls : List Call)
     → WentThrough DoesOverUdp old calls new → LeavesWhatIsSent old calls new

@@ -1,4 +1,4 @@
--- Where the members of a cluster listen, by the parts of a text.
+-- The addresses where the members of a cluster listen, parsed from the parts of a text.
 use Rattle.std.specs.Prelude.{◌≡◌, ◌≢◌, ◌<◌, ◌≤◌, ◌⊎◌, ◌+◌, ⊤, ℕ, List, Some, length, slice_get, take}
 use Rattle.std.specs.List.{AllPairs, AllZip, Contains}
 use Rattle.std.specs.Net.Grammar.{IsSocketV4Text}
@@ -10,12 +10,12 @@ use Rattle.faults.specs.Bytes.{Text}
 use Rattle.udp.specs.declared.hosts.HostsFault.{HostsFault}
 use Rattle.udp.specs.declared.hosts.HostsFault.TheVariants.{BadHost, Memory}
 
--- the part writes this address of IPv4, other than 0.0.0.0 and with a port other than 0
+-- the part writes this IPv4 address, which isn't 0.0.0.0 and whose port isn't 0
 abbrev pub IsHostText : Text → SocketAddr → Type 0
 IsHostText part (V4 a) = IsSocketV4Text part a × (0 < v4_port a) × ¬ (IsUnspecifiedV4 (v4_ip a))
 IsHostText part (V6 a) = ⊥
 
--- The parts write these hosts, each part the one at its place, and no two are the same.
+-- The parts write these hosts, in order, and no two hosts are the same.
 pub record WriteHosts (parts : List Text) (hosts : List SocketAddr) : Type 0 where
   pub each : AllZip IsHostText parts hosts
   pub once : AllPairs (λ a b. a ≢ b) hosts
@@ -24,8 +24,8 @@ pub record WriteHosts (parts : List Text) (hosts : List SocketAddr) : Type 0 whe
 abbrev pub WritesNoOther : List SocketAddr → Text → Type 0
 WritesNoOther earlier part = (host : SocketAddr) → IsHostText part host → Contains earlier host
 
--- For so many members the part behind those of these hosts is lacking, is one too many, or writes
--- no other host.
+-- After the parts of these hosts, with this number of members, the next part is missing, is one too
+-- many, or writes no new host.
 abbrev pub IsBadBehind : List SocketAddr → ℕ → List Text → Type 0
 IsBadBehind earlier members parts =
     ((length parts ≡ length earlier) × (length earlier < members))
@@ -41,7 +41,7 @@ pub record IsFirstBad (members : ℕ) (parts : List Text) (place : ℕ) : Type 0
   pub good : WriteHosts (take (length earlier) parts) earlier
   pub bad : IsBadBehind earlier members parts
 
--- memory was refused, or this part is the first bad one
+-- out of memory, or this part is the first bad one
 abbrev pub RefusesHosts : ℕ → List Text → HostsFault → Type 0
 RefusesHosts members parts Memory = ⊤
 RefusesHosts members parts (BadHost place) = IsFirstBad members parts place

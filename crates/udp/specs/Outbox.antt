@@ -1,10 +1,10 @@
--- What leaves, under the seal of a run or without one.
+-- Texts to send, sealed under a run's key or not.
 use Rattle.std.specs.Prelude.{Option}
 use Rattle.faults.specs.Bytes.{Text}
 
--- Under which key texts leave, and as which bytes the last of them.
+-- The key that texts are sealed with, and the last bytes that were made.
 pub record OutboxState : Type 0 where
-  -- the run's key, where there is a seal
+  -- the run's key, if datagrams are sealed
   pub key : Option Text
-  -- the bytes that were made last
+  -- the last bytes that were made
   pub made : Option Text

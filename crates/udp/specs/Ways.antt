@@ -1,4 +1,4 @@
--- Where nodes listen, and by which way datagrams go.
+-- Where nodes listen, and which way datagrams go.
 use Rattle.std.specs.Prelude.{◌≡◌, ◌⊎◌, ◌+◌, ◌++◌, ⊤, ℕ, List, [], ◌∷◌, None, Some, map, slice_get}
 use Rattle.std.specs.Net.Addr.{ipv4_octets}
 use Rattle.std.specs.Net.Socket.{v4_ip, v4_port}
@@ -14,33 +14,33 @@ abbrev pub IsLocal : ℕ → SocketAddr → Type 0
 IsLocal port (V4 a) = (ipv4_octets (v4_ip a) ≡ 127 ∷ 0 ∷ 0 ∷ 1 ∷ []) × (v4_port a ≡ port)
 IsLocal port (V6 a) = ⊥
 
--- R holds of this number and the first, of the next number and the next one, and so on.
+-- R holds of n and the first element, of n + 1 and the second, and so on.
 abbrev pub CountUp : {X : Type 0} → (ℕ → X → Type 0) → ℕ → List X → Type 0
 CountUp R n [] = ⊤
 CountUp R n (x ∷ xs) = R n x × CountUp R (n + 1) xs
 
--- each member's address is 127.0.0.1, with the first port or the one behind the member's before
+-- the addresses are 127.0.0.1, with consecutive ports from this base on
 abbrev pub AreLocal : ℕ → List SocketAddr → Type 0
 AreLocal base addresses = CountUp IsLocal base addresses
 
--- each seat is that of the member's node with its number
+-- the seats are those of nodes 0, 1, 2 and so on
 abbrev pub AreInOrder : List Seat → Type 0
 AreInOrder seats = CountUp (λ node seat. seat.node ≡ node) 0 seats
 
--- what stands in a line: what for, and its text
+-- a queue's entries: what each is for, and its text
 abbrev pub in_line : {T : Type 0} → List (Waiting T) → List (T × Text)
 in_line waiting = map (λ w. (w.errand, w.bytes.items)) waiting
 
--- the seat at this place is the node's
+-- the seat at this place belongs to the node
 abbrev pub IsSeatOf : List Seat → ℕ → ℕ → Type 0
 IsSeatOf seats node place = (seat : Seat) × (slice_get seats place ≡ Some seat)
     × (seat.node ≡ node)
 
--- none of the seats is the node's
+-- the node has no seat here
 abbrev pub HasNoSeat : List Seat → ℕ → Type 0
 HasNoSeat seats node = (place : ℕ) → ¬ (IsSeatOf seats node place)
 
--- from the sender's seat to the receiver's address
+-- the way is from the sender's seat to the receiver's address
 abbrev pub IsWay : List Seat → List SocketAddr → ℕ → ℕ → Way → Type 0
 IsWay seats addresses from to way = IsSeatOf seats from way.seat
     × (slice_get addresses to ≡ Some way.to) × (way.member ≡ to)
@@ -53,7 +53,7 @@ HasNoWay seats addresses from to = HasNoSeat seats from ⊎ (slice_get addresses
 abbrev pub HasWay : List Seat → List SocketAddr → ℕ → ℕ → Type 0
 HasWay seats addresses from to = (way : Way) × IsWay seats addresses from to way
 
--- Behind what waited to leave waits this text, by the way from its sender to its receiver.
+-- The text was appended to the queue, with the way from its sender to its receiver.
 abbrev pub LeavesBy : List Seat → List SocketAddr → ℕ → ℕ → Text → List (Waiting Way)
     → List (Waiting Way) → Type 0
 LeavesBy seats addresses from to text old new = (way : Way) × IsWay seats addresses from to way

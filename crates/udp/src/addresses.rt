@@ -6,14 +6,18 @@ use faults::Memory;
 use std::alloc::Global;
 use std::net::{Ipv4Addr, SocketAddr, SocketAddrV4};
 
-/// This port of 127.0.0.1.
+/// The given port of 127.0.0.1.
 pub(crate) fn local(port: u16) -> SocketAddr
     ensures { IsLocal port result }
 {
     SocketAddr::V4(SocketAddrV4::new(Ipv4Addr::new(127, 0, 0, 1), port))
 }
 
-/// The addresses of so many members on 127.0.0.1: member K's port is `base + K`.
+/// The addresses of this many members on 127.0.0.1: the port of member K is `base + K`.
+///
+/// # Errors
+///
+/// Out of memory.
 pub fn loopback(alloc: Global, members: u8, base: u16) -> Result<Vec<SocketAddr>, Memory>
     requires base { base ≤ 65526 }
     requires members { members ≤ 9 }

@@ -1,27 +1,27 @@
-//! What a port lets in.
+//! Which datagrams a port accepts.
 ghost use Rattle.std.specs.Prelude.{◌≡◌, ◌+◌, ◌≤◌, None, Some, false, true};
 
 use seals::{SEAL_SIZE, Seal};
 
-/// Of how many bytes the longest datagram is that IPv4 takes.
+/// The maximum length of a datagram over IPv4, in bytes.
 const LONGEST: usize = 65_507;
 
-/// What a port lets in, and as what texts leave.
+/// Which datagrams a port accepts, and whether texts are sealed.
 #[derive(Drop)]
 pub struct Guard {
-    /// The seal of the run, where its datagrams are sealed.
+    /// The run's seal, if datagrams are sealed.
     pub(crate) seal: Option<Seal>,
-    /// Of how many bytes the longest datagram is, with its seal.
+    /// The maximum length of a datagram in bytes, with its seal.
     pub(crate) most: usize,
-    /// Whether datagrams of others than the members are taken, too.
+    /// Whether datagrams from other addresses than the members' are accepted.
     pub(crate) is_open: bool,
-    /// What a request begins with, where one that comes again at once is dropped.
+    /// The bytes that a request begins with, if repeated requests are dropped.
     pub(crate) front: Option<[u8; 5]>,
     ghost fits: { most ≤ 65507 },
 }
 
 impl Guard {
-    /// Lets all in, whoever sends it.
+    /// Accepts all datagrams, from any address.
     pub fn open() -> Guard
         ensures { (result.seal ≡ None) × (result.most ≡ 65507) × (result.is_open ≡ true)
             × (result.front ≡ None) }
@@ -34,7 +34,7 @@ impl Guard {
         }
     }
 
-    /// Lets in what comes from a member's address and is of at most so many bytes.
+    /// Accepts datagrams from members' addresses, of at most `most` bytes.
     pub fn unsealed(most: usize) -> Guard
         requires most { most ≤ 65507 }
         ensures { (result.seal ≡ None) × (result.most ≡ most) × (result.is_open ≡ false)
@@ -48,8 +48,8 @@ impl Guard {
         }
     }
 
-    /// Lets in what comes from a member's address, is sealed so, and has a text of at most so many
-    /// bytes.
+    /// Accepts datagrams from members' addresses that are sealed with this seal and have a text of
+    /// at most `most` bytes.
     pub fn sealed(seal: Seal, most: usize) -> Guard
         requires most { most ≤ 65475 }
         ensures { (result.seal ≡ Some seal) × (result.most ≡ most + SEAL_SIZE)
@@ -63,14 +63,12 @@ impl Guard {
         }
     }
 
-    /// Lets in the same, but for requests that come again at once: a datagram that begins so is
-    /// dropped, and counted, where one of the same bytes came from the same member's address for
-    /// the same node less than 0.9 seconds before, and found a place in line. Where the clock can't
-    /// be read all are let in.
+    /// Drops repeated requests, too. A request is a datagram that begins with `front`. It is
+    /// dropped and counted if an equal one from the same member's address for the same node was
+    /// queued less than 0.9 seconds before. If the clock can't be read, none is dropped.
     ///
-    /// The last 512 that found one are known. So who asks for the same each second, or for one
-    /// thing after the other, is not held back; who asks for the same sooner is not heard. What was
-    /// dropped is like a datagram that was lost on its way.
+    /// The last 512 queued requests are remembered. So a member may repeat a request each second,
+    /// or send different ones at any rate. A dropped request is like a lost datagram.
     pub fn limiting(self, front: [u8; 5]) -> Guard
         ensures { result ≡ record self { front = Some front } }
     {

@@ -1,4 +1,4 @@
-//! Where the members of a cluster listen.
+//! Parsing the addresses where the members of a cluster listen.
 ghost use Rattle.std.specs.Prelude.{◌≡◌, ◌↔◌, IfErr, IfOk, IsTrue, MatchOption, None, Some, length};
 ghost use Rattle.std.specs.List.{Contains};
 ghost use Rattle.std.specs.declared.net.socket_addr.SocketAddr.{SocketAddr};
@@ -13,14 +13,14 @@ use std::alloc::Global;
 use std::net::{SocketAddr, SocketAddrV4};
 use thiserror::Error;
 
-/// Why a text names no hosts for so many members: want of memory, or its first part, counted from
-/// 1, that is no address of IPv4 other than 0.0.0.0 with a port from 1 on, is that of an earlier
-/// member, is lacking or is too much.
+/// Why a text doesn't name the hosts of all members: out of memory, or the number of its first bad
+/// part, counted from 1. A part is bad if it isn't an IPv4 address with a port, has port 0 or
+/// address 0.0.0.0, repeats an earlier one, is missing, or is one too many.
 #[derive(Clone, Copy, Debug, PartialEq, Eq, Error)]
 pub enum HostsFault {
     #[error("out of memory")]
     Memory,
-    #[error("host {0} is none of a member")]
+    #[error("entry {0} is not an address that a member can have")]
     BadHost(u64),
 }
 
@@ -52,13 +52,13 @@ impl Fault for HostsFault {
     }
 }
 
-/// The addresses that the text names, by member: as many as there are members, each once, with
-/// commas between them. None has port 0, at which nobody hears, or is 0.0.0.0: what is sent from
-/// there comes from another address, and others take it for a stranger's.
+/// Parses the members' addresses, separated by commas: one for each member, all different. Port 0
+/// is refused, since nobody listens there. 0.0.0.0 is refused, since datagrams from there have
+/// another source address, which other members don't know.
 ///
 /// # Errors
 ///
-/// `Memory`; `BadHost`, at the first part that is bad.
+/// `Memory`; `BadHost`, at the first bad part.
 pub fn parse_hosts(alloc: Global, text: &str, members: u8) -> Result<Vec<SocketAddr>, HostsFault>
     ensures count { IfOk result (λ hosts. length hosts.items ≡ members) }
     ensures hosts { IfOk result (λ hosts. WriteHosts (pieces_at comma text.now) hosts.items) }
@@ -81,7 +81,7 @@ pub fn parse_hosts(alloc: Global, text: &str, members: u8) -> Result<Vec<SocketA
     Ok(hosts)
 }
 
-/// The host that the part writes, unless it is one of these.
+/// The host that the part writes, unless it is among the earlier ones.
 fn next_host(part: &str, earlier: &[SocketAddr]) -> Option<SocketAddr>
     ensures { MatchOption result (WritesNoOther earlier.now part.now)
         (λ host. IsHostText part.now host × ¬ (Contains earlier.now host)) }
@@ -93,7 +93,7 @@ fn next_host(part: &str, earlier: &[SocketAddr]) -> Option<SocketAddr>
     Some(host)
 }
 
-/// Whether the host is one of these.
+/// Whether the host is among these.
 fn is_among(host: &SocketAddr, hosts: &[SocketAddr]) -> bool
     ensures { IsTrue result ↔ (Contains hosts.now host.now) }
 {

@@ -1,4 +1,4 @@
-//! What came and is a text of this run.
+//! Received texts of this run.
 ghost use Rattle.std.specs.Prelude.{◌≡◌, ◌≢◌, ◌++◌, ◌∷◌, [], IfSome, List, MatchOption, None, option_map, option_to_list, true, ℕ};
 ghost use Rattle.udp.specs.Inbox.{Takes, came_as, is_vouched_for};
 
@@ -8,21 +8,21 @@ use seals::Seal;
 use std::alloc::Global;
 use std::marker::Model;
 
-/// What became of bytes that came.
+/// What was done with received bytes.
 #[derive(Clone, Copy, Debug, PartialEq, Eq)]
 pub enum Came {
-    /// Their text waits.
+    /// Their text was queued.
     Waits,
-    /// Their text found no room or no memory.
+    /// There was no room or no memory for their text.
     Lost,
-    /// They are no sealed text.
+    /// They aren't a sealed text.
     Unsealed,
-    /// They are a request that came again at once, and were dropped.
+    /// They repeat a recent request, and were dropped.
     Repeated,
 }
 
-/// The texts that came, in order, each with the number of the node that it came for. Where there is
-/// a seal what comes without it takes no memory and no place among them.
+/// A queue of received texts, each with the number of the node that it is for. If there is a seal,
+/// unsealed bytes take no memory and no place in it.
 #[derive(Drop)]
 pub struct Inbox {
     alloc: Global,
@@ -46,7 +46,7 @@ impl Model for Inbox {
 impl Inbox {
     ghost use Rattle.udp.specs.declared.inbox.Came.TheVariants.{Lost, Repeated, Unsealed, Waits};
 
-    /// Nothing came yet. So many texts may wait.
+    /// An empty inbox for at most `most` texts.
     pub fn new(alloc: Global, seal: Option<Seal>, most: usize) -> Inbox
         ensures { result ≡ record { key = seal; came = []; waiting = [] } }
     {
@@ -58,7 +58,7 @@ impl Inbox {
         }
     }
 
-    /// Takes these bytes, which came for the node.
+    /// Takes bytes that came for the node.
     pub fn take(&mut self, node: u8, bytes: &[u8]) -> Came
         ensures waits { result ≡ Waits → (text : List ℕ) × Takes self.old self.new bytes.now text
             × (self.new.waiting ≡ self.old.waiting ++ (node, text) ∷ []) }
@@ -79,7 +79,7 @@ impl Inbox {
         }
     }
 
-    /// The text, unless it has to be sealed and isn't.
+    /// The text in these bytes, unless it has to be sealed and isn't.
     fn opened<'b>(&self, bytes: &'b [u8]) -> Option<&'b [u8]>
         ensures { MatchOption result
             ((text : List ℕ) → bytes.now ≢ came_as self.now.key text)
@@ -91,12 +91,12 @@ impl Inbox {
         }
     }
 
-    /// Whether no text waits.
+    /// Whether no text is queued.
     pub fn is_empty(&self) -> bool {
         self.come.is_empty()
     }
 
-    /// The first text, with the node that it came for.
+    /// Takes the first text, with the node that it is for.
     pub fn take_first(&mut self) -> Option<(u8, Vec<u8>)>
         ensures first { self.old.waiting
             ≡ option_to_list (option_map (λ came. (came.0, came.1.items)) result)

@@ -1,12 +1,11 @@
-//! What holds of ports over UDP.
+//! Laws of ports over UDP.
 ghost use Rattle.udp.specs.Calls.{CallsLeaveWhatIsSent};
 
 use std::time::Clock;
 
-/// Nothing leaves a port but what calls send: whatever calls it went through, it is so set up and
-/// under the key that it was, and what was handed to the system or waits to leave is what was or
-/// did so before and the text of each send that was taken for a node of another process, as it
-/// leaves under the key, each once.
+/// Law: nothing leaves a port except what calls send. Whatever calls it went through, its
+/// configuration and keys are unchanged. The texts handed over or queued are those from before and
+/// those of the accepted sends to nodes of other processes, as they leave under the key, each once.
 pub fn calls_leave_what_is_sent<C: Clock>()
     ensures { CallsLeaveWhatIsSent C }
 {}

@@ -1,4 +1,4 @@
-//! A port over UDP.
+//! A port over UDP, through which the nodes of a process reach those of others.
 #![tactic(auto)]
 
 mod addresses;

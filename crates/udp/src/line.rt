@@ -1,4 +1,4 @@
-//! Datagrams that stand in line.
+//! A bounded queue of datagrams.
 ghost use Rattle.std.specs.Prelude.{◌≡◌, ◌+◌, ◌≤◌, ◌<◌, ◌++◌, ◌∷◌, ◌↔◌, [], IfSome, IsPermutation, IsTrue, Ok, OnErr, IfNone, Some, false, length, option_map, option_to_list, slice_get, sum_by, true};
 ghost use Rattle.udp.specs.Ways.{in_line};
 
@@ -6,23 +6,23 @@ use faults::Memory;
 use std::alloc::Global;
 use std::collections::VecDeque;
 
-/// How many bytes may stand in a line: 64 MiB. A build of the most bytes, in pieces for eight
-/// others, takes about half of that.
+/// The maximum size of a queue in bytes: 64 MiB. The largest build, in pieces for eight other
+/// members, takes about half of that.
 const MOST_BYTES: usize = 67_108_864;
 
-/// A datagram that stands in line, and what for.
+/// A queued datagram, and what it is for.
 #[derive(Drop)]
 pub struct Waiting<T: Drop> {
     pub errand: T,
     pub bytes: Vec<u8>,
 }
 
-/// A line of at most so many datagrams, of 64 MiB in all.
+/// A queue of at most `most` datagrams, and of 64 MiB in all.
 #[derive(Drop)]
 pub struct Line<T: Drop> {
     most: usize,
     waiting: VecDeque<Waiting<T>>,
-    /// How many bytes stand in it.
+    /// The total length of the queued datagrams, in bytes.
     size: usize,
     ghost few: { length waiting.items ≤ most },
     ghost counted: { sum_by (λ w. length w.bytes.items) waiting.items ≡ size },
@@ -30,7 +30,7 @@ pub struct Line<T: Drop> {
 }
 
 impl<T: Drop> Line<T> {
-    /// A line for so many datagrams, with none in it.
+    /// An empty queue for at most `most` datagrams.
     pub fn new(alloc: Global, most: usize) -> Line<T>
         ensures empty { result.waiting.items ≡ [] }
         ensures most { result.most ≡ most }
@@ -42,21 +42,21 @@ impl<T: Drop> Line<T> {
         }
     }
 
-    /// Whether none stands in it.
+    /// Whether the queue is empty.
     pub fn is_empty(&self) -> bool
         ensures { IsTrue result ↔ (self.now.waiting.items ≡ []) }
     {
         self.waiting.is_empty()
     }
 
-    /// How many stand in it.
+    /// The number of queued datagrams.
     pub fn len(&self) -> usize
         ensures { result ≡ length self.now.waiting.items }
     {
         self.waiting.len()
     }
 
-    /// Whether such a datagram has room in it.
+    /// Whether there is room for a datagram of these bytes.
     fn has_room_for(&self, bytes: &[u8]) -> bool
         ensures few { result ≡ true → length self.now.waiting.items < self.now.most }
         ensures small { result ≡ true → self.now.size + length bytes.now ≤ 67108864 }
@@ -64,7 +64,11 @@ impl<T: Drop> Line<T> {
         self.waiting.len() < self.most && bytes.len() <= MOST_BYTES - self.size
     }
 
-    /// Puts equal bytes at its end, if there is room for them, and says whether there was.
+    /// Appends a copy of the bytes if there is room, and returns whether there was.
+    ///
+    /// # Errors
+    ///
+    /// Out of memory.
     pub fn put(&mut self, alloc: Global, errand: T, bytes: &[u8]) -> Result<bool, Memory>
         ensures put { result ≡ Ok true → in_line self.new.waiting.items
             ≡ in_line self.old.waiting.items ++ (errand, bytes.now) ∷ [] }
@@ -81,7 +85,7 @@ impl<T: Drop> Line<T> {
         Ok(true)
     }
 
-    /// Takes the first.
+    /// Removes the first datagram.
     pub fn take_first(&mut self) -> Option<Waiting<T>>
         ensures first { self.old.waiting.items ≡ option_to_list result ++ self.new.waiting.items }
         ensures none { IfNone result (self.old.waiting.items ≡ []) }
@@ -91,7 +95,7 @@ impl<T: Drop> Line<T> {
         Some(first)
     }
 
-    /// The one at this place.
+    /// The datagram at this place.
     pub fn at(&self, place: usize) -> Option<&Waiting<T>>
         ensures { slice_get self.now.waiting.items place
             ≡ option_map (λ waiting. waiting.now) result }
@@ -99,7 +103,7 @@ impl<T: Drop> Line<T> {
         self.waiting.get(place)
     }
 
-    /// Takes the one at this place, where the first stands then.
+    /// Removes the datagram at this place, and moves the first one there.
     pub fn take_at(&mut self, place: usize) -> Option<Waiting<T>>
         ensures taken { IfSome result (λ w. IsPermutation self.old.waiting.items
             (w ∷ self.new.waiting.items)) }

@@ -1,4 +1,4 @@
-//! What leaves.
+//! Sealing of texts to send.
 ghost use Rattle.std.specs.Prelude.{◌≡◌, None, OnOk, Some, option_map};
 ghost use Rattle.udp.specs.Inbox.{came_as};
 
@@ -7,13 +7,14 @@ use seals::Seal;
 use std::alloc::Global;
 use std::marker::Model;
 
-/// Seals what leaves, where there is a seal. What leaves several times in a row is sealed once.
+/// Seals texts to send, if there is a seal. A text that is sent several times in a row is sealed
+/// once.
 #[derive(Drop)]
 pub struct Outbox {
     seal: Option<Seal>,
-    /// The bytes as which the last text leaves.
+    /// The bytes that encode the last text.
     last: Vec<u8>,
-    /// How many of them are the text.
+    /// The length of the text in them.
     len: usize,
     is_made: bool,
 }
@@ -31,7 +32,7 @@ impl Model for Outbox {
 }
 
 impl Outbox {
-    /// Nothing was made yet.
+    /// An outbox in which nothing was made yet.
     pub fn new(alloc: Global, seal: Option<Seal>) -> Outbox
         ensures { result ≡ record { key = seal; made = None } }
     {
@@ -43,7 +44,7 @@ impl Outbox {
         }
     }
 
-    /// Makes the bytes as which the text leaves.
+    /// Makes the bytes that encode the text.
     pub fn make(&mut self, text: &[u8]) -> Result<(), Memory>
         ensures made { OnOk result (self.new.made ≡ Some (came_as self.old.key text.now)) }
         ensures key { self.new.key ≡ self.old.key }
@@ -62,7 +63,7 @@ impl Outbox {
         Ok(())
     }
 
-    /// The bytes that were made last, if they were.
+    /// The last bytes that were made, if any.
     pub fn bytes(&self) -> Option<&[u8]>
         ensures { self.now.made ≡ option_map (λ bytes. bytes.now) result }
     {

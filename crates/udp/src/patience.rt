@@ -5,33 +5,33 @@ ghost use Rattle.udp.specs.Waiting.{slow};
 use std::thread;
 use std::time::{Clock, Duration};
 
-/// How often a receive naps briefly before it naps for longer: an answer of a peer that is awake
-/// comes within these.
+/// The number of short naps before the long ones. An answer of a peer that is awake comes within
+/// these.
 const SHORT_NAPS: u32 = 20;
 
-/// How long a short nap is, in microseconds.
+/// The length of a short nap, in microseconds.
 const SHORT_NAP: u64 = 100;
 
-/// How long another nap is, in microseconds.
+/// The length of a long nap, in microseconds.
 const LONG_NAP: u64 = 1_000;
 
-/// How often a receive looks that has time: its naps are a second in all.
+/// The looks of a slow receive: its naps are a second in all.
 const SLOW_LOOKS: u32 = 1_019;
 
-/// How long a receive waits where nothing came.
+/// How long a receive waits if nothing came.
 #[derive(Clone, Copy, Debug, PartialEq, Eq)]
 pub enum Hurry {
-    /// Not at all: there is something else to do.
+    /// Not at all: there is other work to do.
     Brief,
     /// As long as the port's patience says.
     Patient,
-    /// Up to a second, or as long as the port's patience says, if that is longer: there is nothing
-    /// to do but listen.
+    /// A second, or as long as the port's patience says, if that is longer: there is nothing to do
+    /// but listen.
     Slow,
 }
 
-/// How often a receive looks whether something came, before it says that nothing did. Between two
-/// looks it naps, so that a node with nothing to do leaves the processor to others.
+/// How often a receive looks for datagrams before it returns none. It naps between looks, so that
+/// an idle node leaves the processor to others.
 #[derive(Clone, Copy)]
 pub struct Patience {
     looks: u32,
@@ -45,8 +45,9 @@ impl Patience {
         Patience { looks: 1 }
     }
 
-    /// Of the member's node, where nodes wait so many milliseconds: half of that longer for each
-    /// smaller number, so that nodes which claim the same unit don't overtake each other for ever.
+    /// The patience of the member's node if the base is this many milliseconds: half of that is
+    /// added for each smaller member number, so that nodes which claim the same unit don't overtake
+    /// each other for ever.
     pub fn of_member(milliseconds: u16, me: u8) -> Patience {
         if milliseconds == 0 {
             return Patience::none();
@@ -57,7 +58,7 @@ impl Patience {
         }
     }
 
-    /// Looks at least until it napped for a second.
+    /// Looks at least as long as it takes to nap for a second.
     pub fn slow(self) -> Patience
         ensures { result ≡ slow self }
     {
@@ -73,7 +74,7 @@ impl Patience {
         self.looks
     }
 
-    /// Naps behind the look with this number, counted from 0, unless it is the last.
+    /// Naps after the look with this number, counted from 0, unless it is the last.
     pub fn nap<C: Clock>(&self, clock: &C, look: u32) {
         if look < SHORT_NAPS {
             self.nap_for(clock, look, SHORT_NAP);

@@ -1,4 +1,4 @@
-//! The requests that came last.
+//! The last requests that were received.
 ghost use Rattle.std.specs.Prelude.{◌≡◌, ◌<◌, IfOk, None, Some, length, replicate, set};
 ghost use Rattle.std.specs.List.{list_any};
 ghost use Rattle.udp.specs.Requests.{behind, is_again, is_request, request_in};
@@ -8,27 +8,27 @@ use sha2::{Digest, Sha256};
 use std::alloc::Global;
 use std::time::Instant;
 
-/// How long a request has to be behind an equal one, in nanoseconds: a tenth less than a second, so
-/// that who asks each second is heard each time.
+/// The minimum time between two equal requests, in nanoseconds: a tenth less than a second, so that
+/// a member that asks each second is always heard.
 const PAUSE: u128 = 900_000_000;
 
-/// How many requests are known.
+/// The number of requests that are remembered.
 const MOST_KNOWN: usize = 512;
 
-/// A request that came, and when.
+/// A received request, and its time.
 #[derive(Clone, Copy)]
 pub struct Request {
-    /// The node that it came for.
+    /// The node that it is for.
     pub node: u8,
-    /// The member from whose address it came.
+    /// The member whose address it came from.
     pub member: usize,
     pub at: Instant,
     /// SHA-256 of its bytes, as they came.
     pub digest: [u8; 32],
 }
 
-/// The request that these bytes are, which came from the member's address for the node: if they
-/// begin so, and the time is known.
+/// The bytes as a request from the member's address for the node: if they begin with `front` and
+/// the time is known.
 pub fn request_in(
     front: Option<[u8; 5]>,
     now: Option<Instant>,
@@ -60,18 +60,18 @@ fn is_request(front: Option<[u8; 5]>, bytes: &[u8]) -> bool
     }
 }
 
-/// The requests that were taken last: each in a place of its own, till so many others came.
+/// A ring of the last requests that were queued.
 #[derive(Drop)]
 pub struct Requests {
     known: Vec<Option<Request>>,
-    /// The place of the next: where the oldest is, once all places are taken.
+    /// The next place: that of the oldest request, once all places are taken.
     next: usize,
     ghost many: { length known.items ≡ 512 },
     ghost placed: { next < 512 },
 }
 
 impl Requests {
-    /// None came yet.
+    /// An empty ring.
     pub fn new(alloc: Global) -> Result<Requests, Memory>
         ensures { IfOk result (λ requests. requests.known.items ≡ replicate 512 None) }
     {
@@ -82,14 +82,14 @@ impl Requests {
         })
     }
 
-    /// Whether the request came again, and too soon.
+    /// Whether the request repeats one of these too soon.
     pub fn has(&self, request: &Request) -> bool
         ensures { result ≡ list_any (is_again request.now) self.now.known.items }
     {
         self.known.iter().any(|known| is_again(request, known))
     }
 
-    /// Notes a request, in the place of the oldest.
+    /// Notes a request, at the place of the oldest.
     pub fn note(&mut self, request: Request)
         ensures known { self.new.known.items
             ≡ set self.old.known.items self.old.next (Some request) }
@@ -100,7 +100,7 @@ impl Requests {
     }
 }
 
-/// Whether the request is the known one again, and too soon.
+/// Whether the request repeats the known one too soon.
 fn is_again(request: &Request, known: &Option<Request>) -> bool
     ensures { result ≡ is_again request.now known.now }
 {

@@ -10,15 +10,15 @@ ghost use Rattle.udp.specs.Ways.{HasNoSeat, HasNoWay, IsSeatOf, IsWay};
 use crate::inbox::{Came, Inbox};
 use crate::requests::{Request, Requests, request_in};
 use crate::tallies::Tallies;
-use ports::PortFault;
+use datagram_ports::PortFault;
 use std::io::ErrorKind;
 use std::net::{Net, SocketAddr, UdpSocket};
 use std::time::Instant;
 
-/// How many are taken off a socket at each look.
+/// The maximum number of datagrams taken off a socket at each look.
 const TAKEN_AT_A_LOOK: u32 = 1_024;
 
-/// Once this many bytes were taken off a socket the look is over: 4 MiB.
+/// A look ends after this many bytes: 4 MiB.
 const BYTES_AT_A_LOOK: usize = 4_194_304;
 
 /// A node here, and its socket.
@@ -28,44 +28,44 @@ pub struct Seat {
     pub socket: UdpSocket,
 }
 
-/// How a datagram goes.
+/// The way of a datagram.
 #[derive(Clone, Copy)]
 pub struct Way {
     /// The place of its sender's seat.
     pub seat: usize,
-    /// Where its receiver listens.
+    /// The address where its receiver listens.
     pub to: SocketAddr,
-    /// Its receiver's number.
+    /// Its receiver's member number.
     pub member: u8,
 }
 
-/// Whose datagrams are taken, how long ones, and how often.
+/// Which datagrams are accepted.
 #[derive(Clone, Copy)]
 pub struct Sieve<'a> {
-    /// Where the members' nodes listen, by number.
+    /// The addresses where the members' nodes listen, by member number.
     pub members: &'a [SocketAddr],
-    /// Of how many bytes the longest datagram is that is taken.
+    /// The maximum length of an accepted datagram, in bytes.
     pub most: usize,
-    /// Whether those of others than the members are taken, too.
+    /// Whether datagrams from other addresses than the members' are accepted.
     pub is_open: bool,
-    /// What a request begins with, where one that comes again at once is dropped.
+    /// The bytes that a request begins with, if repeated requests are dropped.
     pub front: Option<[u8; 5]>,
-    /// When this is, where the clock tells.
+    /// The time of the look, if the clock can be read.
     pub now: Option<Instant>,
 }
 
 /// What the system did with a datagram.
 #[derive(Clone, Copy, Debug, PartialEq, Eq)]
 pub enum Sent {
-    /// It took the whole of it.
+    /// It took all bytes.
     Whole,
     /// It takes none at the moment.
     NotNow,
-    /// It took it in part, or failed.
+    /// It took only a part, or failed.
     Lost,
 }
 
-/// A seat for the node, at this address; at a free port where the port is 0.
+/// A seat for the node at this address; at any free port if the port is 0.
 pub fn take_seat<R: Net>(rt: &R, node: u8, at: SocketAddr) -> Result<Seat, PortFault>
     ensures node { IfOk result (λ seat. seat.node ≡ node) }
     ensures refused { IfErr result CannotStart }
@@ -79,7 +79,7 @@ pub fn take_seat<R: Net>(rt: &R, node: u8, at: SocketAddr) -> Result<Seat, PortF
     Ok(Seat { node, socket })
 }
 
-/// Where the seat's node listens.
+/// The address where the seat's node listens.
 pub fn address_of(seat: &Seat) -> Result<SocketAddr, PortFault>
     ensures { IfErr result CannotStart }
 {
@@ -96,7 +96,7 @@ pub fn seat_of(seats: &[Seat], node: u8) -> Option<usize>
     seats.iter().position(|seat| seat.node == node)
 }
 
-/// The way between these nodes, if there is one.
+/// The way from one node to the other, if there is one.
 pub fn way_of(seats: &[Seat], addresses: &[SocketAddr], from: u8, to: u8) -> Option<Way>
     ensures { MatchOption result (HasNoWay seats.now addresses.now from to)
         (IsWay seats.now addresses.now from to) }
@@ -110,7 +110,7 @@ pub fn way_of(seats: &[Seat], addresses: &[SocketAddr], from: u8, to: u8) -> Opt
     })
 }
 
-/// Whether what comes from there is taken.
+/// Whether datagrams from this address are accepted.
 fn may_come(sieve: Sieve<'_>, from: &SocketAddr) -> bool
     ensures strangers { sieve.entry.is_open ≡ false → IsStrange sieve.entry.members.now from.now
         → result ≡ false }
@@ -119,12 +119,12 @@ fn may_come(sieve: Sieve<'_>, from: &SocketAddr) -> bool
     sieve.is_open || sieve.members.contains(from)
 }
 
-/// The member at this address, if one is.
+/// The member with this address, if any.
 fn member_at(members: &[SocketAddr], from: &SocketAddr) -> Option<usize> {
     members.iter().position(|member| *member == *from)
 }
 
-/// Takes some of what came off the sockets, and says whether one of them failed.
+/// Takes received datagrams off the sockets, and returns whether a socket failed.
 pub fn take_off(
     seats: &[Seat],
     sieve: Sieve<'_>,
@@ -142,9 +142,9 @@ pub fn take_off(
     has_failed
 }
 
-/// Takes some of what came off the seat's socket, and says whether the socket failed. What is no
-/// text of a member's is counted, and nothing else is done with it. What finds no room in the line,
-/// or no memory, is lost, and so is a request that came again at once.
+/// Takes received datagrams off the seat's socket, and returns whether the socket failed. A
+/// datagram that isn't a member's text is counted and dropped. A text is lost if there is no room
+/// or memory for it, and a repeated request is dropped.
 fn take_all(
     seat: &Seat,
     sieve: Sieve<'_>,
@@ -173,8 +173,8 @@ fn take_all(
     false
 }
 
-/// Takes these bytes, which came from there for the node, if they are no more than a member's
-/// datagram has, and then if they are from a member, and then if they are sealed.
+/// Takes bytes that came from this address for the node. It tests their length first, then that
+/// they are from a member, and then the seal.
 #[tactic(auto, using(crate::proofs::InboxLemmas::goes_on_still))]
 fn take_one(
     node: u8,
@@ -191,7 +191,7 @@ fn take_one(
     ensures strange { sieve.entry.is_open ≡ false
         → IsStrange sieve.entry.members.now from.now → inbox.new ≡ inbox.old }
 
-    // A member's datagram that is no request is taken in any case.
+    // A member's datagram that isn't a request is always taken.
     ensures taken { length bytes.now ≤ sieve.entry.most
         → Contains sieve.entry.members.now from.now
         → is_request sieve.entry.front bytes.now ≡ false
@@ -218,8 +218,8 @@ fn take_one(
     }
 }
 
-/// Takes these bytes, which came from a member's address for the node, and may be a request. One
-/// that came again at once is dropped, and all others are taken as they are elsewhere.
+/// Takes bytes that came from a member's address for the node, and may be a request. A repeated
+/// request is dropped. All other bytes are taken as usual.
 #[tactic(auto, using(crate::proofs::InboxLemmas::goes_on_still))]
 fn take_from(
     node: u8,
@@ -250,7 +250,7 @@ fn take_from(
     came
 }
 
-/// Takes these bytes, which came for the node, if they are a text of this run.
+/// Takes bytes that came for the node, if they are a text of this run.
 fn take_bytes(node: u8, bytes: &[u8], inbox: &mut Inbox) -> Came
     ensures became { Became node bytes.now false inbox.old inbox.new result }
     ensures heard { IsHeardOrLost node bytes.now inbox.old inbox.new }
@@ -259,21 +259,21 @@ fn take_bytes(node: u8, bytes: &[u8], inbox: &mut Inbox) -> Came
     inbox.take(node, bytes)
 }
 
-/// Whether a socket that gave nothing failed. That nothing more came is no failure.
+/// Whether a socket that returned no datagram failed. An empty socket is no failure.
 fn is_failure(kind: ErrorKind) -> bool
     ensures { IsTrue result ↔ (kind ≢ ErrorKind.WouldBlock) }
 {
     !matches!(kind, ErrorKind::WouldBlock)
 }
 
-/// Whether that is the reason for which a system takes nothing at the moment.
+/// Whether this error means that the system takes no datagram at the moment.
 fn is_not_now(kind: ErrorKind) -> bool
     ensures { IsTrue result ↔ (kind ≡ ErrorKind.WouldBlock) }
 {
     matches!(kind, ErrorKind::WouldBlock)
 }
 
-/// Hands the datagram to the system, and says what it did with it.
+/// Hands the datagram to the system, and returns what that did with it.
 pub fn hand_over(seats: &[Seat], way: Way, bytes: &[u8]) -> Sent {
     let Some(seat) = seats.get(way.seat) else {
         return Sent::Lost;
@@ -284,7 +284,7 @@ pub fn hand_over(seats: &[Seat], way: Way, bytes: &[u8]) -> Sent {
     }
 }
 
-/// What a send of so many bytes did, of which the system took so many, or none for this reason.
+/// The result of a send of `count` bytes: the system took this many, or none, with this error.
 fn sent_of(taken: Result<usize, ErrorKind>, count: usize) -> Sent
     ensures whole { (result ≡ Sent.Whole) ↔ (taken ≡ Ok count) }
     ensures later { (result ≡ Sent.NotNow) ↔ (taken ≡ Err ErrorKind.WouldBlock) }

@@ -1,6 +1,6 @@
-//! What was seen of the members, for who asks.
+//! Statistics for each member.
 ghost use Rattle.std.specs.Prelude.{◌≡◌, [], length, replicate, slice_get, map, IfOk};
-ghost use Rattle.ports.specs.Kept.{one_more};
+ghost use Rattle.datagram_ports.specs.Kept.{one_more};
 ghost use Rattle.udp.specs.Tallies.{after, unsent_once_more, with_tally};
 
 use crate::inbox::Came;
@@ -8,34 +8,34 @@ use faults::Memory;
 use std::alloc::Global;
 use std::time::Instant;
 
-/// What was seen of a member. The greatest counts stay.
+/// The counts for one member. They saturate.
 #[derive(Clone, Copy, PartialEq, Eq)]
 pub struct Tally {
-    /// How many datagrams came from its address, and are texts of this run.
+    /// Datagrams from its address that are texts of this run.
     pub heard: u64,
-    /// When the last of them came, if one did and the clock told.
+    /// When the last of them came, if one did and the clock could be read.
     pub last: Option<Instant>,
-    /// How many came from its address, and are no texts of this run: it seals otherwise, or
+    /// Datagrams from its address that aren't texts of this run: the member has another key, or
     /// somebody sends in its name.
     pub unsealed: u64,
-    /// How many requests came from its address again at once, and were dropped.
+    /// Repeated requests from its address, which were dropped.
     pub repeats: u64,
-    /// How many to it were lost, since the system didn't take them.
+    /// Datagrams to it that were lost because the system didn't take them.
     pub unsent: u64,
 }
 
-/// What was seen of each member, by number, and of others.
+/// The counts for each member, by number, and for others.
 #[derive(Drop)]
 pub struct Tallies {
-    /// When the sockets were looked at last, if they were and the clock told.
+    /// The time of the last look at the sockets, if there was one and the clock could be read.
     pub now: Option<Instant>,
-    /// How many datagrams came from addresses of no member, or were longer than any of a member's.
+    /// Datagrams from addresses of no member, or longer than a member's may be.
     pub strange: u64,
     pub members: Vec<Tally>,
 }
 
 impl Tallies {
-    /// Nothing was seen yet of so many members.
+    /// Zero counts for this many members.
     pub(crate) fn new(alloc: Global, members: usize) -> Result<Tallies, Memory>
         ensures { IfOk result (λ tallies. length tallies.members.items ≡ members) }
     {
@@ -54,14 +54,14 @@ impl Tallies {
         })
     }
 
-    /// The sockets are looked at, now, where the clock tells when that is.
+    /// Notes the time of a look at the sockets, if the clock could be read.
     pub(crate) fn look(&mut self, now: Option<Instant>)
         ensures { self.new ≡ record self.old { now = now } }
     {
         self.now = now;
     }
 
-    /// One came that is no member's.
+    /// Counts a datagram that isn't a member's.
     pub(crate) fn note_strange(&mut self)
         ensures { (self.new.strange ≡ one_more self.old.strange)
             × (self.new.now ≡ self.old.now) × (self.new.members ≡ self.old.members) }
@@ -69,7 +69,7 @@ impl Tallies {
         self.strange = self.strange.saturating_add(1);
     }
 
-    /// This became of one that came from the member's address.
+    /// Counts a datagram from the member's address, with which this was done.
     pub(crate) fn note(&mut self, member: usize, came: Came)
         ensures members { self.new.members.items
             ≡ with_tally (after self.old.now came) member self.old.members.items }
@@ -82,7 +82,7 @@ impl Tallies {
         }
     }
 
-    /// One to the member was lost.
+    /// Counts a datagram to the member that was lost.
     pub(crate) fn note_unsent(&mut self, member: usize)
         ensures members { self.new.members.items
             ≡ with_tally unsent_once_more member self.old.members.items }
@@ -96,7 +96,7 @@ impl Tallies {
     }
 }
 
-/// The tally, after this became of one more.
+/// The tally after this was done with one more datagram.
 fn seen(tally: Tally, now: Option<Instant>, came: Came) -> Tally
     ensures { result ≡ after now came tally }
 {
@@ -117,7 +117,7 @@ fn seen(tally: Tally, now: Option<Instant>, came: Came) -> Tally
     }
 }
 
-/// The tally, after one more to the member was lost.
+/// The tally after one more datagram to the member was lost.
 fn with_one_unsent(tally: Tally) -> Tally
     ensures { result ≡ unsent_once_more tally }
 {

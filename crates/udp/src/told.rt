@@ -1,10 +1,11 @@
-//! Texts that only clauses read.
+//! A ghost list of texts.
 ghost use Rattle.std.specs.Prelude.{◌≡◌, ◌++◌, ◌∷◌, [], ℕ, List};
 ghost use Rattle.std.specs.Borrow.{ftrue};
 
 use std::marker::{Model, PhantomData};
 
-/// The bytes that came off the sockets, or that were handed to them, in order. It takes no memory.
+/// The bytes that were received, or that were handed to the system, in order. Only contracts see
+/// them; they take no memory.
 #[derive(Drop)]
 pub struct Told {
     marker: PhantomData<u8>,
@@ -16,7 +17,7 @@ impl Model for Told {
 }
 
 impl Told {
-    /// None yet.
+    /// An empty list.
     pub(crate) fn new() -> Told
         ensures { result.all ≡ [] }
     {
@@ -25,7 +26,7 @@ impl Told {
         }
     }
 
-    /// These bytes, too.
+    /// Appends these bytes.
     pub(crate) fn note(&mut self, _bytes: &[u8])
         ensures { self.new.all ≡ self.old.all ++ _bytes.now ∷ [] }
     {}

@@ -1,7 +1,7 @@
-//! Nodes that hear each other over UDP.
+//! Ports over UDP.
 ghost use Rattle.std.specs.Prelude.{◌≡◌, ◌<◌, [], IfErr, IfOk, IfSome, None, OnErr, OnOk, length, true};
-ghost use Rattle.ports.specs.Calls.{Received, Sent, told};
-ghost use Rattle.ports.specs.Kept.{counted, one_more};
+ghost use Rattle.datagram_ports.specs.Calls.{Received, Sent, told};
+ghost use Rattle.datagram_ports.specs.Kept.{counted, one_more};
 ghost use Rattle.udp.specs.Calls.{DoesOverUdp};
 ghost use Rattle.udp.specs.Inbox.{StillVouches, came_as, is_vouched_for};
 ghost use Rattle.udp.specs.Leaving.{IsLeft};
@@ -21,59 +21,59 @@ use crate::requests::Requests;
 use crate::sockets::{Seat, Way, address_of, take_seat};
 use crate::tallies::Tallies;
 use crate::told::Told;
-use ports::{Port, PortFault};
+use datagram_ports::{Port, PortFault};
 use seals::Seal;
 use std::alloc::Global;
 use std::net::{Net, SocketAddr};
 use std::time::Clock;
 
-/// How many datagrams that came may stand in line. What comes beyond is lost.
+/// The maximum number of received datagrams in the queue. Any further ones are lost.
 const MOST_COME: usize = 65_536;
 
-/// How many datagrams may wait to leave.
+/// The maximum number of datagrams in the outgoing queue.
 const MOST_LEAVING: usize = 2_048;
 
-/// One socket for each node here. None of them blocks.
+/// One non-blocking socket for each node here.
 ///
-/// A socket keeps only few datagrams that nobody took. So what came is taken off the sockets before
-/// and behind each datagram that is sent here, and stands in line till it is asked for. What is for
-/// a node of another process leaves a few at a time, and out of order, so that pieces which are
-/// sent again don't get lost at the same place again. What the system doesn't take at the moment
-/// stays in line.
+/// Socket buffers are small. So received datagrams are moved into a queue before and after each
+/// datagram that is sent to a node here, and wait there for a receive. Datagrams for nodes of other
+/// processes leave a few at a time and out of order, so that pieces which are sent again aren't
+/// lost at the same place again. A datagram that the system doesn't take at the moment stays
+/// queued.
 #[derive(Drop)]
 pub struct UdpPort<'c, C: Clock> {
     clock: &'c C,
     alloc: Global,
     seats: Vec<Seat>,
-    /// Where the members' nodes listen, by number.
+    /// The addresses where the members' nodes listen, by member number.
     addresses: Vec<SocketAddr>,
-    /// Of how many bytes the longest datagram is.
+    /// The maximum length of a datagram, in bytes.
     most: usize,
-    /// Whether datagrams of others than the members are taken, too.
+    /// Whether datagrams from other addresses than the members' are accepted.
     is_open: bool,
-    /// What a request begins with, where one that comes again at once is dropped.
+    /// The bytes that a request begins with, if repeated requests are dropped.
     front: Option<[u8; 5]>,
     buffer: Vec<u8>,
     inbox: Inbox,
     requests: Requests,
     outbox: Outbox,
     leaving: Line<Way>,
-    /// What was handed to the system and left the line.
+    /// What left the queue and was handed to the system.
     handed: Told,
-    /// Picks the next one to leave.
+    /// Picks the next datagram to leave.
     pick: usize,
     patience: Patience,
-    /// How long a receive waits at the moment where nothing came.
+    /// How long a receive waits at the moment if nothing came.
     hurry: Hurry,
     tallies: Tallies,
-    /// How many datagrams were offered.
+    /// The number of datagrams that were offered.
     sends: u64,
     failures: u64,
 }
 
 impl<'c, C: Clock> UdpPort<'c, C> {
-    /// The port of all members' nodes, each at a free port of 127.0.0.1. It never naps, and lets
-    /// all in.
+    /// The port of all members' nodes, each at a free port of 127.0.0.1. A receive never naps, and
+    /// all datagrams are accepted.
     ///
     /// # Errors
     ///
@@ -94,8 +94,8 @@ impl<'c, C: Clock> UdpPort<'c, C> {
         UdpPort::together_behind(rt, clock, alloc, members, Guard::open())
     }
 
-    /// The port of all members' nodes, each at a free port of 127.0.0.1, behind a guard. It never
-    /// naps.
+    /// The port of all members' nodes, each at a free port of 127.0.0.1, with a guard. A receive
+    /// never naps.
     ///
     /// # Errors
     ///
@@ -126,13 +126,14 @@ impl<'c, C: Clock> UdpPort<'c, C> {
         port_of(clock, alloc, seats, addresses, Patience::none(), guard)
     }
 
-    /// The port of one member's node, at its own one of these addresses, by member. The others are
-    /// elsewhere. It lets all in. A receive waits so many milliseconds for a datagram, and for each
-    /// smaller number half of that longer; that of a lone member waits for nobody.
+    /// The port of one member's node, which listens at its own one of these addresses. The other
+    /// nodes are elsewhere. All datagrams are accepted. A receive waits `patience` milliseconds for
+    /// a datagram, and half of that longer for each smaller member number. The node of the only
+    /// member doesn't wait.
     ///
     /// # Errors
     ///
-    /// `Memory`; `NoSocket`, where this address can't be had.
+    /// `Memory`; `NoSocket` if its address isn't available.
     pub fn alone<R: Net>(
         rt: &R,
         clock: &'c C,
@@ -152,11 +153,11 @@ impl<'c, C: Clock> UdpPort<'c, C> {
         UdpPort::alone_behind(rt, clock, alloc, addresses, me, patience, Guard::open())
     }
 
-    /// The port of one member's node, as `alone` makes it, behind a guard.
+    /// Like `alone`, with a guard.
     ///
     /// # Errors
     ///
-    /// `Memory`; `NoSocket`, where this address can't be had.
+    /// `Memory`; `NoSocket` if its address isn't available.
     pub fn alone_behind<R: Net>(
         rt: &R,
         clock: &'c C,
@@ -186,22 +187,21 @@ impl<'c, C: Clock> UdpPort<'c, C> {
         port_of(clock, alloc, seats, addresses, patience, guard)
     }
 
-    /// From now on a receive waits so long where nothing came. At first it is patient.
+    /// Sets how long a receive waits if nothing came. At first it is patient.
     pub fn set_hurry(&mut self, hurry: Hurry)
         ensures { self.new ≡ record self.old { hurry = hurry } }
     {
         self.hurry = hurry;
     }
 
-    /// How many datagrams were offered to the port so far, those that it didn't take with them. The
-    /// greatest count stays.
+    /// The number of datagrams offered so far, including those that weren't accepted. It saturates.
     pub fn sends(&self) -> u64
         ensures { result ≡ self.now.sends }
     {
         self.sends
     }
 
-    /// What was seen of the members so far.
+    /// The statistics for the members so far.
     pub fn tallies(&self) -> &Tallies
         ensures { result.now ≡ self.now.tallies }
     {
@@ -209,7 +209,7 @@ impl<'c, C: Clock> UdpPort<'c, C> {
     }
 }
 
-/// The port of these, with nothing on its way.
+/// A port of these, with empty queues.
 fn port_of<'c, C: Clock>(
     clock: &'c C,
     alloc: Global,
@@ -246,7 +246,8 @@ fn port_of<'c, C: Clock>(
         most,
         is_open,
         front,
-        // One byte longer than the longest datagram: what is longer yet is cut to that.
+        // One byte longer than the longest datagram: a longer datagram is cut to this length, and
+        // so is recognized as too long.
         buffer: vec![in alloc; 0; most + 1]?,
         inbox: Inbox::new(alloc, seal, MOST_COME),
         requests,
@@ -262,7 +263,7 @@ fn port_of<'c, C: Clock>(
     })
 }
 
-/// The same seal once more, if it is one.
+/// A copy of the seal, if there is one.
 fn copy_of(seal: &Option<Seal>) -> Option<Seal>
     ensures { result ≡ seal.now }
 {
@@ -288,7 +289,7 @@ impl<'c, C: Clock> Port for UdpPort<'c, C> {
 
         ensures does { DoesOverUdp self.old (Received (told result)) self.new }
 
-        // The bytes that came were this text, as it comes under the seal.
+        // The received bytes encode this text under the seal.
         ensures vouched { IfOk result (λ o. IfSome o
             (λ d. is_vouched_for self.new.inbox.key self.new.inbox.came d.1.items ≡ true)) }
         ensures vouches_on { StillVouches self.old.inbox self.new.inbox }
@@ -299,7 +300,7 @@ impl<'c, C: Clock> Port for UdpPort<'c, C> {
         ensures stays { (self.new.sends ≡ self.old.sends)
             × (self.new.hurry ≡ self.old.hurry) }
 
-        // Each that waited to leave is handed to the system at most once, or waits still.
+        // Each queued datagram is handed to the system at most once, or still waits.
         ensures leaving { IsLeft self.old.leaving.waiting.items self.old.handed.all
             self.new.leaving.waiting.items self.new.handed.all }
     {
@@ -319,12 +320,12 @@ impl<'c, C: Clock> Port for UdpPort<'c, C> {
         ensures does { DoesOverUdp self.old
             (Sent (record { from = from; to = to; text = bytes.now }) result) self.new }
 
-        // It was offered.
+        // A datagram was offered.
         ensures offered { (self.new.sends ≡ one_more self.old.sends)
             × (self.new.hurry ≡ self.old.hurry) }
 
-        // It is from a node here to a member. What is for a node of another process waits to leave
-        // by the way there, sealed where there is a seal.
+        // It goes from a node here to a member. If it is for a node of another process, it is
+        // queued with the way there, sealed if there is a seal.
         ensures way { OnOk result
             (HasWay self.old.seats.items self.old.addresses.items from to) }
         ensures away { OnOk result (HasNoSeat self.old.seats.items to

@@ -1,4 +1,4 @@
--- A text that is cut while it comes is cut as its pieces are.
+-- A text that is cut while it is written is cut into its pieces.
 use Rattle.std.proofs.Common.{◌≡◌, ℕ, zero, suc, ◌+◌, ◌*◌, ◌<◌, ◌≤◌, List, [], ◌∷◌, ◌++◌, length, get_or, map, take, drop, refl, sym, ap, subst, ◌∙◌, append_assoc, arith, inl, inr}
 use Rattle.std.specs.Prelude.{All, flat_map}
 use Rattle.std.specs.List.{range_with_len}
@@ -12,7 +12,7 @@ use Rattle.wire.specs.Pieces.{most_pieces, numbers_of, piece_size}
 use Rattle.wire.specs.inside.Cuts.{AreCuts, cuts_of}
 use Rattle.wire.proofs.PieceNumbers.{all_numbers, cut_at}
 
--- all pieces one after the other
+-- all pieces, concatenated
 abbrev pub joined : List Text → Text
 joined pieces = flat_map (λ bytes. bytes) pieces
 
@@ -25,7 +25,7 @@ full_first x xs full = full 0 x (omega arith)
 full_rest : (x : Text) (xs : List Text) → AreFull (x ∷ xs) → AreFull xs
 full_rest x xs full = λ k d below. full (suc k) d (omega arith)
 
--- how many bytes full pieces have
+-- the number of bytes of full pieces
 pub full_length : (xs : List Text) → AreFull xs → length (joined xs) ≡ piece_size * length xs
 full_length [] full = refl
 full_length (x ∷ xs) full = omega (arith, length-append x (joined xs), full_first x xs full, full_length xs (full_rest x xs full))
@@ -45,14 +45,14 @@ cut_full (x ∷ xs) last (suc k) full below =
     ∙ ap (take piece_size) (drop-append-add x (joined xs ++ last) (piece_size * k))
     ∙ cut_full xs last k (full_rest x xs full) (omega arith)
 
--- and so are the bytes behind them
+-- and so are the bytes after them
 pub cut_last : (xs : List Text) (last : Text) → AreFull xs → length last ≤ piece_size → cut_at (joined xs ++ last) (length xs) ≡ last
 cut_last xs last full few =
     ap (λ (n : ℕ). take piece_size (drop n (joined xs ++ last))) (sym (full_length xs full))
     ∙ ap (take piece_size) (drop-append_seam (joined xs) last)
     ∙ take_all piece_size last few
 
--- so many pieces make a text of so many bytes
+-- the numbers of the pieces of a text of this length
 pub numbers_are : (size count : ℕ) → size ≤ most_bytes → size ≤ piece_size * count → piece_size * count < size + piece_size → numbers_of size ≡ range_with_len 0 count
 numbers_are size count few enough most =
     let numbers = all_numbers size in
@@ -75,7 +75,7 @@ cuts_by text ys numbers each =
     (λ k below. sym (get_or-map-range_with_len (cut_at text) 0 (length ys) k k [] below (omega arith) ∙ each k below))
     ∙ ap (map (cut_at text)) (sym numbers)
 
--- full pieces with nothing behind them
+-- full pieces, with nothing after them
 pub cuts_full : (xs : List Text) → AreFull xs → length (joined xs ++ []) ≤ most_bytes → xs ≡ cuts_of (joined xs ++ [])
 cuts_full xs full few =
     let size : length (joined xs ++ []) ≡ piece_size * length xs = length-append (joined xs) [] ∙ omega (arith, full_length xs full) in
@@ -87,7 +87,7 @@ are_cuts_full xs full few =
     subst (λ (t : Text). xs ≡ cuts_of t) (append-nil (joined xs))
     (cuts_full xs full (subst (λ (t : Text). length t ≤ most_bytes) (sym (append-nil (joined xs))) few))
 
--- the item behind a list
+-- the item after a list
 get_or-behind : {X : Type 0} (xs : List X) (x d : X) (k : ℕ) → length xs ≡ k → get_or (xs ++ x ∷ []) k d ≡ x
 get_or-behind [] x d zero same = refl
 get_or-behind [] x d (suc k) same = absurd (omega arith)
@@ -99,7 +99,7 @@ get_or-before [] ys d k below = absurd (omega arith)
 get_or-before (x ∷ xs) ys d zero below = refl
 get_or-before (x ∷ xs) ys d (suc k) below = get_or-before xs ys d k (omega arith)
 
--- full pieces with some bytes behind them
+-- full pieces, with some bytes after them
 pub cuts_last : (xs : List Text) (last : Text) → AreFull xs → 1 ≤ length last → length last < piece_size → length (joined xs ++ last) ≤ most_bytes
     → xs ++ last ∷ [] ≡ cuts_of (joined xs ++ last)
 cuts_last xs last full some less few =
@@ -124,9 +124,9 @@ pub are_cuts_last : (xs : List Text) (last : Text) → AreFull xs → 1 ≤ leng
     → AreCuts (xs ++ last ∷ [])
 are_cuts_last xs last full some less few = cuts_last xs last full some less few ∙ ap cuts_of (sym (joined_more xs last))
 
--- ---- the pieces again
+-- ---- from the pieces back to the text
 
--- so many numbers are those of the pieces
+-- the numbers are those of the pieces
 numbers_again : (pieces : List Text) → AreCuts pieces → (numbers_of (length (joined pieces)) ≡ range_with_len 0 (length pieces)) × (length pieces ≤ most_pieces)
 numbers_again pieces cuts =
     let text = joined pieces in
@@ -149,7 +149,7 @@ cut_here pieces p k cuts below here =
       omega (arith, numbers.1, below),
     )
 
--- what was made of each number from 0 on was made of all
+-- what is made of each number from 0 on is made of all pieces
 pub made_of_all : {X : Type 0} (f : ℕ → X) (pieces : List Text) (n : ℕ) (xs : List X) → AreCuts pieces → n ≡ length pieces → xs ≡ map f (range_with_len 0 n) → xs ≡ map f (numbers_of (length (joined pieces)))
 made_of_all f pieces n xs cuts all so_far =
     so_far ∙ ap (λ (k : ℕ). map f (range_with_len 0 k)) all ∙ ap (map f) (sym (numbers_again pieces cuts).0)

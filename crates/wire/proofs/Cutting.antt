@@ -1,4 +1,4 @@
--- The datagrams of a message, and what its pieces join to.
+-- The datagrams of a message, and the message that its pieces join to.
 use Rattle.std.proofs.Common.{◌≡◌, ℕ, suc, ◌+◌, ◌-◌, ◌*◌, ◌<◌, ◌≤◌, min, List, [], ◌∷◌, ◌++◌, length, get_or, map, drop, Option, None, Some, Result, Ok, refl, sym, ap, subst, ◌∙◌, arith}
 use Rattle.std.specs.Prelude.{◌↔◌, All, flat_map, option_map, slice_get}
 use Rattle.std.specs.List.{range_with_len}
@@ -39,7 +39,7 @@ use Rattle.wire.proofs.Steps.{bind_ok, ok_is}
 abbrev sent : Header → Text → ℕ → Datagram
 sent h text k = datagrams.Piece (piece_at h text k)
 
--- how many bytes a piece has
+-- the number of bytes of a piece
 cut_length : (text : Text) (k : ℕ) → length (cut_at text k) ≡ min piece_size (length text - piece_size * k)
 cut_length text k = length-take piece_size (drop (piece_size * k) text) ∙ ap (min piece_size) (length-drop (piece_size * k) text)
 
@@ -57,14 +57,14 @@ pieces_good h text good size =
     (subst (All (λ (k : ℕ). IsDatagram (sent h text k))) (sym numbers.1.same)
     (all_first (λ (k : ℕ). IsDatagram (sent h text k)) numbers.0 (λ k below. piece_good h text k good size (numbers.1.within k below))))
 
--- the first pieces, so many of them, are numbered from 0 on
+-- this number of first pieces are numbered from 0 on
 first_numbered : (h : Header) (text : Text) (count : ℕ)
     → map number_in (map (sent h text) (range_with_len 0 count)) ≡ map Some (range_with_len 0 (length (map (sent h text) (range_with_len 0 count))))
 first_numbered h text count =
     map-map number_in (sent h text) (range_with_len 0 count)
     ∙ ap (λ (n : ℕ). map Some (range_with_len 0 n)) (sym (length-map-range_with_len (sent h text) 0 count))
 
--- each of them but the last is full
+-- all of them but the last are full
 first_full : (h : Header) (text : Text) (count k : ℕ) → piece_size * (k + 1) < length text → k < count
     → option_map (λ d. length (bytes_in d)) (slice_get (map (sent h text) (range_with_len 0 count)) k) ≡ Some piece_size
 first_full h text count k more below =
@@ -169,7 +169,7 @@ pieces_join again m carrier v good e =
     ap (λ (r : Result Value WireFault). r >>= λ v. Ok (message_with h v)) (whole_build_read again m.path v is.1)
     ∙ ap Ok (message_again m carrier v e)
 
--- lists whose items are the same, one by one
+-- functions that agree on all items
 same_flat : {X A : Type 0} (f g : X → List A) (xs : List X) → All (λ x. f x ≡ g x) xs → flat_map f xs ≡ flat_map g xs
 same_flat f g [] same = refl
 same_flat f g (x ∷ xs) same =
@@ -179,7 +179,7 @@ same_flat f g (x ∷ xs) same =
 once_bytes : (h : Header) (text : Text) (pieces : List Piece) (k : ℕ) → StandsOnce pieces (piece_at h text k) → bytes_numbered h pieces k ≡ cut_at text k
 once_bytes h text pieces k once = ap (flat_map (λ p. p.bytes)) once ∙ append-nil (cut_at text k)
 
--- the bytes of pieces that are all there are the text
+-- the bytes of pieces that are complete are the text
 pub pieces_spell : (h : Header) (text : Text) (pieces : List Piece) → length text ≤ most_bytes → length text ≡ h.length → AreAllThere h text pieces → bytes_of h pieces ≡ text
 pieces_spell h text pieces few size there =
     let numbers = all_numbers (length text) in

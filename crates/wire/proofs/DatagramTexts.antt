@@ -1,4 +1,4 @@
--- Datagrams that are spelled so are read, and what was read is spelled so.
+-- The texts of datagrams are parsed as these, and what is parsed has its text.
 use Rattle.std.proofs.Common.{◌≡◌, ◌≤◌, true, cond, [], ◌++◌, length, codes, None, Some, Result, Ok, Err, inl, inr, refl, sym, ap, subst, ◌∙◌, arith}
 use Rattle.std.specs.Str.{bytes_eq}
 use Rattle.std.proofs.lemmas.Bool.{le-ltb}
@@ -27,7 +27,7 @@ use Rattle.wire.proofs.Readers.{begins_none, read_again, whole_took}
 use Rattle.wire.proofs.Steps.{bind_ok, refusal_ok, test_ok, ways, where_false}
 use Rattle.wire.proofs.WholeTexts.{TookWhole, whole_read, whole_tail, whole_taken}
 
--- ---- with what is behind
+-- ---- with a rest
 
 pub datagram_read : (d : Datagram) (rest : Text) → IsDatagram d → datagram_at (datagram_text d ++ rest) ≡ gives d rest
 unfolding datagram_at

@@ -1,4 +1,4 @@
--- Fields that are spelled so are read, and what was read is spelled so.
+-- The texts of fields are parsed as these, and what is parsed has its text.
 use Rattle.std.proofs.Common.{◌≡◌, ℕ, ◌+◌, ◌<◌, ◌≤◌, ◌^◌, Bool, true, false, cond, ◌&&◌, leb, ltb, [], ◌∷◌, ◌++◌, length, take, drop, Option, Some, None, Result, Ok, Err, refl, sym, ap, subst, ◌∙◌, append_assoc, arith, inl, inr}
 use Rattle.std.specs.Prelude.{slice_index}
 use Rattle.std.specs.Str.{bytes_eq}
@@ -12,7 +12,7 @@ use Rattle.faults.specs.Answers.{unless_fault}
 use Rattle.faults.specs.Bytes.{Text, is_empty, is_one_of}
 use Rattle.pkgpath.specs.PkgPath.{IsPath, canonical_text, fault_of, path_of, value_of}
 use Rattle.pkgpath.specs.declared.PathFault.{PathFault}
-use Rattle.agreement.specs.declared.claim.Claim.{Claim}
+use Rattle.claims.specs.declared.claim.Claim.{Claim}
 use Rattle.claims.specs.Claim.{IsClaim, greatest_round}
 use Rattle.package_record.specs.Build.{build_text, unit_path}
 use Rattle.package_record.specs.BuildReading.{whole_build_of}
@@ -29,11 +29,11 @@ use Rattle.wire.specs.declared.WireFault.TheVariants.{BadField, Kind, Truncated}
 use Rattle.wire.proofs.Numbers.{big_bytes-big_number, big_number-big_bytes, length-big_bytes}
 use Rattle.wire.proofs.Steps.{bind_ok, ok_is, test_ok, where_true}
 
--- what is read, and the text behind it
+-- the result, and the text after it
 abbrev pub gives : {A : Type 0} → A → Text → Result (A × Text) WireFault
 gives x rest = Ok (x, rest)
 
--- What was read is good, and with what is behind it, is the text.
+-- The result is valid, and its text followed by the rest is the whole text.
 pub record Took {A : Type 0} (is_good : A → Type 0) (spell : A → Text) (text : Text) (y : A × Text) : Type 0 where
   pub good : is_good y.0
   pub spelled : text ≡ spell y.0 ++ y.1
@@ -64,7 +64,7 @@ are_bytes_before n text bytes enough k = elim (cases_lt k n) [
       rw (get_or_past (take n text) k 0 size) (omega arith)
 ]
 
--- what was taken of n bytes
+-- the result of taking n bytes
 pub record TookBytes (n : ℕ) (text : Text) (y : Text × Text) : Type 0 where
   pub size : length y.0 ≡ n
   pub field : AreBytes y.0
@@ -153,7 +153,7 @@ claim_taken text y bytes e =
 
 -- ---- paths
 
--- a path has some bytes, and not too many
+-- a path is not empty, and not too long
 pub record HasPathLength (path : Text) : Type 0 where
   pub some : 1 ≤ length path
   pub few : length path ≤ 255
@@ -238,7 +238,7 @@ kind_read kinds kind rest good =
 abbrev pub IsKind : Text → ℕ → Type 0
 IsKind kinds kind = is_one_of kinds kind ≡ true
 
--- the byte alone
+-- only the byte
 abbrev pub byte_text : ℕ → Text
 byte_text b = b ∷ []
 
@@ -277,7 +277,7 @@ build_read again name v rest good =
     ∙ ap (λ (r : Result (Text × Text) WireFault). r >>= λ bytes. build_in name (whole_build_of bytes.0) >>= λ build. gives build bytes.1) (bytes_read (length text) text rest refl)
     ∙ ap (λ (r : Result Value WireFault). r >>= λ build. gives build rest) (whole_build_read again name v good)
 
--- the build that was read is of the unit, and the text is its
+-- a build that was parsed is of the unit, and the text is that of the build
 pub whole_build_taken : WhatIsReadIsABuild → (name text : Text) (v : Value) → build_in name (whole_build_of text) ≡ Ok v → IsBuildOf name v × (text ≡ build_text v)
 whole_build_taken made name text v e =
     let way = of_unit (whole_build_of text) e in

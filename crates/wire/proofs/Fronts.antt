@@ -1,4 +1,4 @@
--- The fields that each datagram begins with.
+-- The first fields of each datagram.
 use Rattle.std.proofs.Common.{◌≡◌, ℕ, ◌<◌, ◌≤◌, true, List, ◌∷◌, ◌++◌, length, Result, Ok, sym, ap, subst, ◌∙◌, append_assoc, arith}
 use Rattle.faults.specs.Bytes.{Text, is_one_of}
 use Rattle.pkgpath.specs.PkgPath.{IsPath}
@@ -10,7 +10,7 @@ use Rattle.wire.specs.declared.fields.Front.{Front}
 use Rattle.wire.proofs.FieldTexts.{Took, bytes_read, bytes_taken, byte_read, gives, kind_read, kind_taken, number_taken, one_byte, path_read, path_taken}
 use Rattle.wire.proofs.Steps.{bind_ok, ok_is}
 
--- the fields as they are spelled
+-- the text of the fields
 abbrev pub fields_text : Front → Text
 fields_text f = f.kind ∷ f.sender ∷ (f.tree ++ path_text f.path)
 

@@ -1,8 +1,8 @@
--- Notes that are spelled so are read, and what was read is spelled so.
+-- The texts of notes are parsed as these, and what is parsed has its text.
 use Rattle.std.proofs.Common.{◌≡◌, ℕ, ◌≤◌, true, [], ◌∷◌, ◌++◌, Result, Ok, inl, inr, refl, sym, ap, subst, ◌∙◌, append_assoc, arith}
 use Rattle.faults.specs.Bytes.{Text, is_one_of}
 use Rattle.claims.specs.Claim.{greatest_round}
-use Rattle.agreement.specs.declared.claim.Claim.{Claim}
+use Rattle.claims.specs.declared.claim.Claim.{Claim}
 use Rattle.package_record.specs.Laws.{BuildTextIsReadAgain, WhatIsReadIsABuild}
 use Rattle.ballots.specs.Value.{Value}
 use Rattle.ballots.specs.declared.message.Fact.{Fact}
@@ -17,7 +17,7 @@ use Rattle.wire.proofs.FieldTexts.{Took, build_read, build_taken, claim_read, cl
 use Rattle.wire.proofs.Readers.{begins_none, one_of, read_again, whole_took}
 use Rattle.wire.proofs.Steps.{bind_ok, ok_is}
 
--- ---- what is spelled is read
+-- ---- from the note to its text and back
 
 voted_read : BuildTextIsReadAgain → (name : Text) (c : Claim) (v : Value) (rest : Text) → IsFact name (Voted c v) → voted_at name (fact_text (Voted c v) ++ rest) ≡ gives (Voted c v) rest
 unfolding voted_at
@@ -55,9 +55,9 @@ note_read again n rest good =
     (path_read n.path (fact_text n.fact ++ rest) good.path)
     ∙ ap (λ (r : Result (Fact Value × Text) WireFault). r >>= λ fact. gives (note_from n.path fact.0) fact.1) (fact_read again n.path n.fact rest good.fact)
 
--- ---- what is read is spelled so
+-- ---- from the text to the note and back
 
--- what was taken for the fact of a note of this kind
+-- the result of parsing the fact of a note of this kind
 record TookFact (name : Text) (kind : ℕ) (text : Text) (y : Fact Value × Text) : Type 0 where
   good : IsFact name y.0
   kind_is : note_kind y.0 ≡ kind

@@ -1,4 +1,4 @@
--- Bytes and the numbers that they are.
+-- Numbers as bytes.
 use Rattle.std.proofs.Common.{◌≡◌, ℕ, zero, suc, ◌+◌, ◌*◌, ◌^◌, ◌<◌, ◌≤◌, List, [], ◌∷◌, length, refl, sym, ap, ◌∙◌, arith, inl, inr}
 use Rattle.std.proofs.Math.Nat.{mod-lt, mul-le-mul_right}
 use Rattle.std.proofs.lemmas.Bool.{cases_lt}
@@ -25,7 +25,7 @@ are_bytes-big_bytes zero x k = omega arith
 are_bytes-big_bytes (suc n) x zero = byte_at_small n x
 are_bytes-big_bytes (suc n) x (suc k) = are_bytes-big_bytes n x k
 
--- ---- numbers of as many bytes are told apart by each byte
+-- ---- numbers of equal length differ in some byte
 
 digit_below : (p x y a b : ℕ) → a < p → x < y → x * p + a ≡ y * p + b → ⊥
 digit_below p x y a b small less same =
@@ -54,7 +54,7 @@ same_number (suc n) (x ∷ xs) (y ∷ ys) lx ly bx by same =
     let rest = same_number n xs ys (omega arith) (omega arith) (tail x xs bx) (tail y ys by) parts.1 in
     ap (λ (z : ℕ). z ∷ xs) parts.0 ∙ ap (λ (zs : List ℕ). y ∷ zs) rest
 
--- bytes are those of the number that they are
+-- bytes are those of the number that they encode
 pub big_bytes-big_number : (n : ℕ) (xs : List ℕ) → length xs ≡ n → AreBytes xs → big_bytes n (big_number n xs) ≡ xs
 big_bytes-big_number n xs size bytes =
     same_number n (big_bytes n (big_number n xs)) xs (length-big_bytes n (big_number n xs)) size (are_bytes-big_bytes n (big_number n xs)) bytes

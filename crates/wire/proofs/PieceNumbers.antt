@@ -12,11 +12,11 @@ use Rattle.faults.specs.Bytes.{Text}
 use Rattle.package_record.specs.Content.{most_bytes}
 use Rattle.wire.specs.Pieces.{most_pieces, numbers_of, piece_size}
 
--- those of the first n numbers whose places are within a text of so many bytes
+-- those of the first n numbers whose pieces begin within a text of this length
 abbrev pub numbers_below : ℕ → ℕ → List ℕ
 numbers_below n size = filter (λ k. ltb (piece_size * k) size) (range_with_len 0 n)
 
--- these are all, where n is the most pieces that there may be
+-- these are all, if n is the maximum number of pieces
 pub numbers_all : (size : ℕ) → numbers_below most_pieces size ≡ numbers_of size
 unfolding numbers_of
 numbers_all size = refl
@@ -34,19 +34,19 @@ pub number_within : (n size : ℕ) → piece_size * n < size → numbers_below (
 number_within n size within =
     below_more n size ∙ ap (λ (b : Bool). numbers_below n size ++ cond b (n ∷ []) []) (lt-ltb (piece_size * n) size within)
 
--- nothing is left for one more
+-- no more piece begins within the text
 pub number_past : (n size : ℕ) → size ≤ piece_size * n → numbers_below (n + 1) size ≡ numbers_below n size
 number_past n size past =
     below_more n size ∙ ap (λ (b : Bool). numbers_below n size ++ cond b (n ∷ []) []) (le-ltb (piece_size * n) size past) ∙ append-nil (numbers_below n size)
 
--- and so for any number of more
+-- and likewise for more numbers
 pub numbers_past : (m n size : ℕ) → size ≤ piece_size * n → numbers_below (n + m) size ≡ numbers_below n size
 numbers_past zero n size past = ap (λ (k : ℕ). numbers_below k size) (let e : n + 0 ≡ n = omega arith in e)
 numbers_past (suc m) n size past =
     ap (λ (k : ℕ). numbers_below k size) (let e : n + suc m ≡ (n + m) + 1 = omega arith in e)
     ∙ number_past (n + m) size (omega (arith, past)) ∙ numbers_past m n size past
 
--- The numbers are those from 0 on, and how many they are.
+-- The numbers are those from 0 on, and this is how many there are.
 pub record AreFirst (n size count : ℕ) : Type 0 where
   pub same : numbers_below n size ≡ range_with_len 0 count
   pub most : count ≤ n
@@ -87,7 +87,8 @@ first_numbers (suc n) size =
       | inr past ↦ (before.0, subst (λ (m : ℕ). AreFirst m size before.0) one (kept n size before.0 before.1 past))
     ]
 
--- The numbers of all pieces of a text of so many bytes, and how many they are. All of it is in them, if it isn't too long.
+-- The numbers of all pieces of a text of this length, and how many there are. They cover the whole
+-- text, if it doesn't exceed the limit.
 pub record AreAll (size count : ℕ) : Type 0 where
   pub same : numbers_of size ≡ range_with_len 0 count
   pub most : count ≤ most_pieces
@@ -128,7 +129,7 @@ all_first P count each k d below =
 abbrev pub cut_at : Text → ℕ → Text
 cut_at text k = take piece_size (drop (piece_size * k) text)
 
--- the bytes of the first pieces are those that the text begins with
+-- the bytes of the first pieces are a prefix of the text
 pub first_bytes : (text : Text) (n : ℕ) → flat_map (cut_at text) (range_with_len 0 n) ≡ take (piece_size * n) text
 first_bytes text zero = refl
 first_bytes text (suc n) =
@@ -163,7 +164,7 @@ map_within f n size before after so_far within more =
     ∙ sym (map-append f (numbers_below n size) (n ∷ []))
     ∙ ap (map f) (sym (number_within n size within))
 
--- ---- what is left of a text
+-- ---- the rest of a text
 
 pub left_more : (text rest behind : Text) (n m : ℕ) → rest ≡ drop (piece_size * n) text → m ≡ min (length rest) piece_size → behind ≡ drop m rest
     → behind ≡ drop (piece_size * (n + 1)) text
@@ -177,14 +178,14 @@ cut_is text rest front n m left few is =
     is ∙ ap (λ (k : ℕ). take k rest) (few ∙ (let e : min (length rest) piece_size ≡ min piece_size (length rest) = omega arith in e))
     ∙ take_min piece_size rest ∙ ap (take piece_size) left
 
--- something is left where the next piece begins within the text, and only there
+-- the rest is not empty if and only if the next piece begins within the text
 pub left_within : (text rest : Text) (n : ℕ) → rest ≡ drop (piece_size * n) text → eqb (length rest) 0 ≡ false → piece_size * n < length text
 left_within text rest n left some = omega (arith, eqb-false (length rest) 0 some, ap length left, length-drop (piece_size * n) text)
 
 pub left_past : (text rest : Text) (n : ℕ) → rest ≡ drop (piece_size * n) text → eqb (length rest) 0 ≡ true → length text ≤ piece_size * n
 left_past text rest n left none = omega (arith, eqb-true (length rest) 0 none, ap length left, length-drop (piece_size * n) text)
 
--- where nothing is left, these are all numbers
+-- if the rest is empty, these are all numbers
 pub numbers_end : (n size : ℕ) → n ≤ most_pieces → size ≤ piece_size * n → numbers_below n size ≡ numbers_of size
 numbers_end n size most past =
     sym (numbers_past (most_pieces - n) n size past)

@@ -3,7 +3,7 @@ use Rattle.std.proofs.Common.{◌≡◌, ℕ, ◌-◌, ◌*◌, ◌<◌, ◌≤�
 use Rattle.std.proofs.lemmas.Bool.{lt-ltb, ltb-true}
 use Rattle.byteorder.specs.Endian.{big_bytes}
 use Rattle.faults.specs.Bytes.{Text, is_one_of}
-use Rattle.agreement.specs.declared.claim.Claim.{Claim}
+use Rattle.claims.specs.declared.claim.Claim.{Claim}
 use Rattle.claims.specs.Claim.{IsClaim}
 use Rattle.package_record.specs.Content.{most_bytes}
 use Rattle.wire.specs.Laws.{AreBytes}
@@ -24,7 +24,7 @@ use Rattle.wire.proofs.Fronts.{IsFront, fields_text, front_of, front_read, front
 use Rattle.wire.proofs.Readers.{one_of}
 use Rattle.wire.proofs.Steps.{bind_ok, ok_is, test_ok, where_true}
 
--- ---- what carries a build
+-- ---- carriers
 
 report_read : (c d : Claim) (rest : Text) → IsClaim c → IsClaim d → report_at ((claim_text c ++ (1 ∷ claim_text d)) ++ rest) ≡ gives (Promise c d) rest
 unfolding report_at
@@ -47,7 +47,7 @@ is_carrier_kind (Promise c d) = refl
 is_carrier_kind (Propose c) = refl
 is_carrier_kind Agreed = refl
 
--- what was taken for what carries a build in a message of this kind
+-- the result of parsing the carrier of a message of this kind
 record TookCarrier (kind : ℕ) (text : Text) (y : Carrier × Text) : Type 0 where
   good : IsCarrier y.0
   kind_is : carrier_kind y.0 ≡ kind
@@ -107,7 +107,7 @@ carrier_taken kind text y good bytes e =
 abbrev pub front_in : Header → Front
 front_in h = front_of (carrier_kind h.carrier) h.sender h.tree h.path
 
--- a header behind the four bytes that it begins with
+-- a header, after its first four bytes
 abbrev pub header_tail : Header → Text
 header_tail h = (fields_text (front_in h) ++ carrier_text h.carrier) ++ big_bytes 4 h.length
 
@@ -169,7 +169,7 @@ piece_number_taken size text y bytes e =
 abbrev piece_of : Header → ℕ → List ℕ → Piece
 piece_of header number bytes = record { header = header; number = number; bytes = bytes }
 
--- a piece behind the four bytes that it begins with
+-- a piece, after its first four bytes
 abbrev pub piece_tail : Piece → Text
 piece_tail p = (header_tail p.header ++ big_bytes 2 p.number) ++ p.bytes
 
@@ -187,7 +187,7 @@ piece_read p rest good =
     ∙ ap (λ (r : Result (Text × Text) WireFault). r >>= λ bytes. gives (datagrams.Piece (piece_of h p.number bytes.0)) bytes.1)
     (bytes_read (min piece_size (h.length - piece_size * p.number)) p.bytes rest good.bytes)
 
--- what was taken for a piece
+-- the result of parsing a piece
 pub record TookPiece (text : Text) (y : Datagram × Text) : Type 0 where
   pub piece : Piece
   pub is : y.0 ≡ datagrams.Piece piece

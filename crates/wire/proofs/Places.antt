@@ -1,7 +1,7 @@
--- Where the sender's number stands in a datagram, and how long pieces are.
+-- The place of the sender's number in a datagram, and the lengths of pieces.
 use Rattle.std.proofs.Common.{◌≡◌, ◌<◌, ◌≤◌, ◌+◌, ℕ, suc, zero, List, [], ◌∷◌, ◌++◌, length, min, Option, Some, codes, refl, sym, ap, subst, ◌∙◌, arith, slice_get}
 use Rattle.std.proofs.lemmas.List.{length-append}
-use Rattle.agreement.specs.declared.claim.Claim.{Claim}
+use Rattle.claims.specs.declared.claim.Claim.{Claim}
 use Rattle.wire.specs.Laws.{sender_of}
 use Rattle.wire.specs.Pieces.{IsPiece, piece_size}
 use Rattle.wire.specs.Spelling.{carrier_kind, carrier_text, claim_text, datagram_text, front_text, header_text, path_text, piece_text}
@@ -17,7 +17,7 @@ use Rattle.wire.specs.declared.datagram.TheConstants.{LONGEST_PIECE, SENDER_PLAC
 use Rattle.wire.proofs.FieldTexts.{path_length}
 use Rattle.wire.proofs.Numbers.{length-big_bytes}
 
--- behind four bytes and the kind
+-- after four bytes and the kind
 pub sender_stands : (d : Datagram) → slice_get (datagram_text d) SENDER_PLACE ≡ Some (sender_of d)
 sender_stands (datagrams.Whole m) = refl
 sender_stands (datagrams.Piece p) = refl

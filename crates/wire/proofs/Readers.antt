@@ -1,4 +1,4 @@
--- What follows for whole texts from a reader that leaves what is behind.
+-- Parsers of whole texts, made of parsers that leave a rest.
 use Rattle.std.proofs.Common.{◌≡◌, Bool, true, false, ◌||◌, eqb, ℕ, [], ◌∷◌, ◌++◌, length, Result, Ok, ◌⊎◌, inl, inr, refl, sym, ap, subst, ◌∙◌}
 use Rattle.std.proofs.lemmas.Bool.{eqb-true}
 use Rattle.std.proofs.lemmas.List.{append-nil}
@@ -9,7 +9,7 @@ use Rattle.wire.specs.declared.WireFault.TheVariants.{Trailing}
 use Rattle.wire.proofs.FieldTexts.{Took, gives}
 use Rattle.wire.proofs.Steps.{bind_ok, ok_is, test_ok}
 
--- the text of x is read as x, whatever is behind it
+-- the text of x, followed by any rest, is parsed as x
 abbrev pub IsReadBefore : {A : Type 0} → (Text → Result (A × Text) WireFault) → (A → Text) → A → Type 0
 IsReadBefore at spell x = (rest : Text) → at (spell x ++ rest) ≡ gives x rest
 
@@ -27,7 +27,7 @@ nothing : (t : Text) → is_empty t ≡ true → t ≡ []
 nothing [] e = refl
 nothing (b ∷ bs) e = absurd cc
 
--- what the whole text was read as is good and spelled so
+-- a whole text that is parsed as a valid value is the text of that value
 pub whole_took : {A : Type 0} (at : Text → Result (A × Text) WireFault) (good : A → Type 0) (spell : A → Text) (text : Text) (x : A)
     → ((y : A × Text) → at text ≡ Ok y → Took good spell text y) → (at text >>= ends) ≡ Ok x → good x × (text ≡ spell x)
 whole_took at good spell text x took e =

@@ -1,7 +1,7 @@
--- Messages that go out in whole.
+-- Messages that are sent whole.
 use Rattle.std.proofs.Common.{◌≡◌, ℕ, ◌≤◌, true, [], ◌∷◌, ◌++◌, None, Some, Result, Ok, inl, inr, refl, sym, ap, subst, ◌∙◌, append_assoc, arith}
 use Rattle.faults.specs.Bytes.{Text, is_one_of}
-use Rattle.agreement.specs.declared.claim.Claim.{Claim}
+use Rattle.claims.specs.declared.claim.Claim.{Claim}
 use Rattle.claims.specs.Claim.{IsClaim}
 use Rattle.ballots.specs.Value.{Value}
 use Rattle.ballots.specs.declared.message.Body.{Body}
@@ -21,7 +21,7 @@ use Rattle.wire.proofs.Fronts.{IsFront, fields_text, front_of, front_read, front
 use Rattle.wire.proofs.Readers.{one_of}
 use Rattle.wire.proofs.Steps.{bind_ok, ok_is}
 
--- ---- what is spelled is read
+-- ---- from the message to its text and back
 
 promise_read : (c : Claim) (rest : Text) → IsClaim c → promise_at ((claim_text c ++ 0 ∷ []) ++ rest) ≡ gives (Promise c None) rest
 unfolding promise_at
@@ -56,7 +56,7 @@ is_whole_kind (Agreed v) none = absurd cc
 is_whole_kind Ask none = refl
 is_whole_kind (Nay c d) none = refl
 
--- the fields of a message that goes out in whole
+-- the first fields of a message that is sent whole
 abbrev pub front_in : Message Value → Front
 front_in m = front_of (kind_of m.body) m.sender m.tree m.path
 
@@ -70,9 +70,9 @@ whole_read m rest good none =
     (front_read whole_kinds (front_in m) (body_text m.body ++ rest) front)
     ∙ ap (λ (r : Result (Body Value × Text) WireFault). r >>= λ body. gives (Whole (whole (front_in m) body.0)) body.1) (body_read m.path m.body rest good.body none)
 
--- ---- what is read is spelled so
+-- ---- from the text to the message and back
 
--- what was taken for what a message of this kind says
+-- the result of parsing the body of a message of this kind
 record TookBody (name : Text) (kind : ℕ) (text : Text) (y : Body Value × Text) : Type 0 where
   good : IsBody name y.0
   whole : carried_in y.0 ≡ None
@@ -153,11 +153,11 @@ body_taken name kind text y good bytes e =
       ]
     ]
 
--- the text behind the four bytes that a message in whole begins with
+-- the text of a whole message, after its first four bytes
 abbrev pub whole_tail : Message Value → Text
 whole_tail m = fields_text (front_in m) ++ body_text m.body
 
--- what was taken for a message in whole
+-- the result of parsing a whole message
 pub record TookWhole (text : Text) (y : Datagram × Text) : Type 0 where
   pub message : Message Value
   pub is : y.0 ≡ Whole message

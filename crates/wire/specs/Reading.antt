@@ -1,10 +1,10 @@
--- Reading from left to right, with the first fault that is met.
+-- Parsing from left to right, up to the first fault.
 use Rattle.std.specs.Prelude.{◌*◌, ◌-◌, ◌==◌, ◌&&◌, ℕ, min, nat_le, nat_lt, [], ◌∷◌, None, Result, Ok, Err, codes, drop, length, slice_index, take, if◌then◌else◌}
 use Rattle.std.specs.Str.{bytes_eq}
 use Rattle.byteorder.specs.Endian.{big_number}
 use Rattle.faults.specs.Bytes.{Text, is_empty, is_one_of}
 use Rattle.pkgpath.specs.PkgPath.{path_of}
-use Rattle.agreement.specs.declared.claim.Claim.{Claim}
+use Rattle.claims.specs.declared.claim.Claim.{Claim}
 use Rattle.claims.specs.Claim.{greatest_round, most_members}
 use Rattle.package_record.specs.Build.{unit_path}
 use Rattle.package_record.specs.Content.{most_bytes}
@@ -29,19 +29,19 @@ use Rattle.wire.specs.declared.datagram.Header.{Header}
 use Rattle.wire.specs.declared.fields.Front.{Front}
 
 infixl 10 ◌>>=◌
--- a fault ends the reading; else it goes on with what was read
+-- parsing ends at a fault, and else goes on with the result
 abbrev pub ◌>>=◌ :
     {A B : Type 0} → Result A WireFault → (A → Result B WireFault) → Result B WireFault
 (Ok x) >>= f = f x
 (Err e) >>= f = Err e
 
--- ---- fields: each takes its bytes from the front of the text, and leaves what is behind them
+-- ---- fields: each takes its bytes from the front of the text, and leaves the rest
 
--- so many bytes
+-- this number of bytes
 abbrev pub bytes_at : ℕ → Text → Result (Text × Text) WireFault
 bytes_at n text = if nat_le n (length text) then Ok (take n text, drop n text) else Err Truncated
 
--- a number of so many bytes, the greatest byte first, in this range
+-- a big-endian number of n bytes, in this range
 unfoldable pub number_at : ℕ → ℕ → ℕ → Text → Result (ℕ × Text) WireFault
 number_at n least greatest text = do
   field ← bytes_at n text
@@ -55,11 +55,11 @@ claim_at text = do
   member ← number_at 1 0 (most_members - 1) round.1
   Ok (record { round = round.0; member = member.0 }, member.1)
 
--- the path that the text is, in its canonical form
+-- the text as a path, which has to be in its canonical form
 unfoldable pub path_in : Text → Result Text WireFault
 path_in text = if is_itself (path_of text) text then Ok text else Err BadField
 
--- a path in its canonical form, behind its length
+-- a path in its canonical form, preceded by its length
 unfoldable pub path_at : Text → Result (Text × Text) WireFault
 path_at text = do
   size ← number_at 2 1 255 text
@@ -79,7 +79,7 @@ abbrev pub build_in : {F : Type 0} → Text → Result Value F → Result Value 
 build_in name (Ok v) = if bytes_eq (unit_path v) name then Ok v else Err BadField
 build_in name (Err e) = Err BadField
 
--- a build of the unit with this name, behind its length
+-- a build of the unit with this name, preceded by its length
 unfoldable pub build_at : Text → Text → Result (Value × Text) WireFault
 build_at name text = do
   size ← number_at 4 0 most_bytes text
@@ -87,13 +87,13 @@ build_at name text = do
   build ← build_in name (whole_build_of bytes.0)
   Ok (build, bytes.1)
 
--- what was read, where nothing is left behind it
+-- the result, if nothing is left after it
 abbrev pub ends : {X : Type 0} → X × Text → Result X WireFault
 ends x = if is_empty x.1 then Ok x.0 else Err Trailing
 
 -- ---- datagrams
 
--- the kinds of messages that go out in whole: Offer, Promise, Vote, Ask, Nay
+-- the kinds of messages that are sent whole: Offer, Promise, Vote, Ask, Nay
 abbrev pub whole_kinds : Text
 whole_kinds = 1 ∷ 2 ∷ 4 ∷ 6 ∷ 7 ∷ []
 
@@ -101,8 +101,8 @@ whole_kinds = 1 ∷ 2 ∷ 4 ∷ 6 ∷ 7 ∷ []
 abbrev pub carrier_kinds : Text
 carrier_kinds = 2 ∷ 3 ∷ 5 ∷ []
 
--- the fields that each datagram begins with: its kind, of these; the sender; its tree's digest; the
--- unit's name
+-- the first fields of each datagram: its kind, which is one of these; the sender; its tree's
+-- digest; the unit's name
 unfoldable pub front_at : Text → Text → Result (Front × Text) WireFault
 front_at kinds text = do
   kind ← kind_at kinds text
@@ -111,7 +111,7 @@ front_at kinds text = do
   path ← path_at tree.1
   Ok (record { kind = kind.0; sender = sender.0; tree = tree.0; path = path.0 }, path.1)
 
--- a body that is a claim alone
+-- a body that is only a claim
 abbrev pub body_of_claim : (Claim → Body Value) → Text → Result (Body Value × Text) WireFault
 body_of_claim body text = claim_at text >>= (λ c. Ok (body c.0, c.1))
 
@@ -122,14 +122,14 @@ promise_at text = do
   mark ← number_at 1 0 0 claim.1
   Ok (bodies.Promise claim.0 None, mark.1)
 
--- the claim that is turned down, and the one that is promised
+-- the claim that is rejected, and the one that is promised
 unfoldable pub nay_at : Text → Result (Body Value × Text) WireFault
 nay_at text = do
   claim ← claim_at text
   promised ← claim_at claim.1
   Ok (bodies.Nay claim.0 promised.0, promised.1)
 
--- the body of a message of this kind that goes out in whole
+-- the body of a message of this kind that is sent whole
 abbrev pub body_at : ℕ → Text → Result (Body Value × Text) WireFault
 body_at kind text =
     if kind == 1 then body_of_claim bodies.Offer text
@@ -142,7 +142,7 @@ body_at kind text =
 abbrev pub whole : Front → Body Value → Message Value
 whole f body = record { sender = f.sender; tree = f.tree; path = f.path; body = body }
 
--- a message in whole
+-- a whole message
 unfoldable pub whole_at : Text → Result (Datagram × Text) WireFault
 whole_at text = do
   front ← front_at whole_kinds text
@@ -157,7 +157,7 @@ report_at text = do
   voted ← claim_at mark.1
   Ok (carriers.Promise claim.0 voted.0, voted.1)
 
--- what carries a build in a message of this kind
+-- what a message of this kind says besides the build that it carries
 abbrev pub carrier_at : ℕ → Text → Result (Carrier × Text) WireFault
 carrier_at kind text =
     if kind == 2 then report_at text
@@ -174,7 +174,7 @@ header_from f carrier size = record {
   length = size;
 }
 
--- all that pieces of one message have in common
+-- the fields that all pieces of one message share
 unfoldable pub header_at : Text → Result (Header × Text) WireFault
 header_at text = do
   front ← front_at carrier_kinds text
@@ -182,7 +182,7 @@ header_at text = do
   size ← number_at 4 1 most_bytes carrier.1
   Ok (header_from front.0 carrier.0 size.0, size.1)
 
--- the number of a piece of a build's text that is so long
+-- the number of a piece of a build's text of this length
 unfoldable pub piece_number_at : ℕ → Text → Result (ℕ × Text) WireFault
 piece_number_at size text = do
   number ← number_at 2 0 65535 text
@@ -196,7 +196,7 @@ piece_at text = do
   bytes ← bytes_at (min piece_size (header.0.length - piece_size * number.0)) number.1
   Ok (Piece (record { header = header.0; number = number.0; bytes = bytes.0 }), bytes.1)
 
--- by the four bytes that it begins with
+-- a whole message or a piece, by the first four bytes
 abbrev pub datagram_by : Text → Text → Result (Datagram × Text) WireFault
 datagram_by magic text =
     if bytes_eq magic (codes "DPB1") then whole_at text
@@ -209,7 +209,7 @@ datagram_at text = do
   magic ← bytes_at 4 text
   datagram_by magic.0 magic.1
 
--- the most bytes that a datagram may have
+-- the maximum length of a datagram in bytes
 abbrev pub most_datagram_bytes : ℕ
 most_datagram_bytes = LONGEST
 
@@ -218,7 +218,7 @@ unfoldable pub datagram_of : Text → Result Datagram WireFault
 datagram_of text =
     if nat_lt most_datagram_bytes (length text) then Err TooLong else datagram_at text >>= ends
 
--- the message with the header whose build's text this is, or a fault
+-- the message with the header and the build with this text, or a fault
 abbrev pub joined : Header → Text → Result (Message Value) WireFault
 joined h text = build_in h.path (whole_build_of text) >>= (λ v. Ok (message_with h v))
 
@@ -235,7 +235,7 @@ voted_at name text = do
   build ← build_at name claim.1
   Ok (facts.Voted claim.0 build.0, build.1)
 
--- the fact of a note of this kind on the unit with this name
+-- the fact of a note of this kind about the unit with this name
 abbrev pub fact_at : Text → ℕ → Text → Result (Fact Value × Text) WireFault
 fact_at name kind text =
     if kind == 1

@@ -1,4 +1,4 @@
-//! A text that is cut into pieces while it comes: no byte of it stands anywhere but in its piece.
+//! A text that is cut into pieces while it is written. Each byte is stored only in its piece.
 ghost use Rattle.std.specs.Prelude.{◌≡◌, ◌++◌, ◌∷◌, ◌<◌, ◌≤◌, [], IfOk, OnOk, flat_map, length};
 ghost use Rattle.package_record.specs.Build.{build_text};
 ghost use Rattle.package_record.specs.Content.{header_text, most_bytes, record_text};
@@ -9,19 +9,19 @@ use package_record::{Build, Record};
 use std::alloc::Global;
 use std::mem;
 
-/// The pieces of a text so far.
+/// The pieces of the text so far.
 #[derive(Drop)]
 pub struct Cuts {
-    /// Those that have `PIECE_SIZE` bytes.
+    /// The pieces of `PIECE_SIZE` bytes.
     pub full: Vec<Bytes>,
-    /// The bytes behind these, which are fewer.
+    /// The bytes after these, which are fewer.
     pub last: Vec<u8>,
 }
 
 impl Cuts {
     ghost use Rattle.wire.specs.inside.Cuts.{AreCuts, IsCut, text_in};
 
-    /// Those of an empty text.
+    /// The pieces of an empty text.
     fn new(alloc: Global) -> Result<Cuts, Memory>
         ensures cut { IfOk result (λ cuts. IsCut cuts) }
         ensures text { IfOk result (λ cuts. text_in cuts ≡ []) }
@@ -45,7 +45,7 @@ impl Cuts {
         Ok(())
     }
 
-    /// Appends as many bytes as the last piece has room for, and answers the others.
+    /// Appends as many bytes as the last piece has room for, and returns the rest.
     fn fill<'a>(&mut self, alloc: Global, text: &'a [u8]) -> Result<&'a [u8], Memory>
         requires cut { IsCut self.old }
         requires some { 1 ≤ length text.now }
@@ -99,7 +99,7 @@ impl Cuts {
         Ok(())
     }
 
-    /// Those of the build's text. The build is let go.
+    /// The pieces of the build's text. The build is dropped.
     pub fn of(alloc: Global, build: Build) -> Result<Cuts, Memory>
         ensures cut { IfOk result (λ cuts. IsCut cuts) }
         ensures text { IfOk result (λ cuts. text_in cuts ≡ build_text build) }
@@ -113,7 +113,7 @@ impl Cuts {
         Ok(cuts)
     }
 
-    /// How many bytes the text has.
+    /// The length of the text in bytes.
     pub fn len(&self) -> usize
         requires cut { IsCut self.now }
         requires few { length (text_in self.now) ≤ most_bytes }

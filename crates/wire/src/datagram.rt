@@ -1,4 +1,4 @@
-//! What goes out in one piece: a message in whole, or a piece of one that carries a build.
+//! Datagrams: a whole message, or a piece of one that carries a build.
 ghost use Rattle.std.specs.Prelude.{◌≡◌, IfOk};
 ghost use Rattle.wire.specs.Joining.{same_carrier, same_header};
 
@@ -8,22 +8,22 @@ use faults::Memory;
 use pkgpath::PkgPath;
 use std::marker::Model;
 
-/// The bytes of each piece but the last.
+/// The number of bytes of each piece but the last.
 pub const PIECE_SIZE: usize = 32_768;
 
-/// The most pieces that a message has.
+/// The maximum number of pieces of a message.
 pub const MOST_PIECES: u16 = 128;
 
-/// Where the number of its sender stands in a datagram.
+/// The place of the sender's number in a datagram.
 pub const SENDER_PLACE: usize = 5;
 
-/// How many bytes the longest piece has: one of a promise that reports a vote, of a unit whose name
-/// has 255 bytes. That is 38 bytes and the name behind its length in 2, two claims and a byte
-/// between them in 19, the length of the build in 4, the piece's number in 2, and those of the
-/// build.
+/// The maximum length of a piece in bytes: one of a promise that reports a vote, of a unit whose
+/// name has 255 bytes. It has 38 bytes before the name; 2 for the name's length, and the name; 19
+/// for two claims and a byte between them; 4 for the length of the build; 2 for the piece's number;
+/// and `PIECE_SIZE` bytes of the build.
 pub const LONGEST_PIECE: usize = 33_088;
 
-/// Bytes, which contracts see as a list.
+/// Bytes. Contracts see them as a list.
 #[derive(Drop)]
 pub struct Bytes {
     items: Vec<u8>,
@@ -59,7 +59,7 @@ impl Bytes {
         self.items
     }
 
-    /// Equal bytes. It fails only for want of memory.
+    /// Equal bytes. Fails only if memory runs out.
     pub fn copy(&self) -> Result<Bytes, Memory>
         ensures { IfOk result (λ bytes. bytes ≡ self.now) }
     {
@@ -79,8 +79,8 @@ pub enum Carrier {
     Agreed,
 }
 
-/// What the pieces of one message have in common: all that the message says but the build, and how
-/// long the build's text is.
+/// What the pieces of one message share: all of the message but the build, and the length of the
+/// build's text.
 #[derive(Drop)]
 pub struct Header {
     /// The number of the member that sends it.
@@ -89,23 +89,23 @@ pub struct Header {
     pub tree: [u8; 32],
     /// The name of the unit.
     pub path: PkgPath,
-    /// What it says of the unit.
+    /// What the message says of the unit, besides the build.
     pub carrier: Carrier,
-    /// How many bytes the build's text has.
+    /// The length of the build's text in bytes.
     pub length: u32,
 }
 
-/// A piece of a message: some of its build's text.
+/// A piece of a message: a part of its build's text.
 #[derive(Drop)]
 pub struct Piece {
     pub header: Header,
-    /// Which piece it is, counted from 0.
+    /// The number of the piece, counted from 0.
     pub number: u16,
-    /// 32,768 bytes, fewer only in the last piece.
+    /// 32,768 bytes; the last piece may have fewer.
     pub bytes: Bytes,
 }
 
-/// What goes out at once.
+/// What is sent at once.
 #[derive(Drop)]
 pub enum Datagram {
     /// A message that carries no build.
@@ -114,7 +114,7 @@ pub enum Datagram {
 }
 
 impl Carrier {
-    /// Whether both are one.
+    /// Whether the two are equal.
     pub fn is_same(self, other: Carrier) -> bool
         ensures { result ≡ same_carrier self other }
     {
@@ -128,7 +128,7 @@ impl Carrier {
 }
 
 impl Piece {
-    /// An equal piece. It fails only for want of memory.
+    /// An equal piece. Fails only if memory runs out.
     pub fn copy(&self) -> Result<Piece, Memory>
         ensures { IfOk result (λ piece. piece ≡ self.now) }
     {
@@ -143,7 +143,7 @@ impl Piece {
 }
 
 impl Datagram {
-    /// An equal datagram. It fails only for want of memory.
+    /// An equal datagram. Fails only if memory runs out.
     pub fn copy(&self) -> Result<Datagram, Memory>
         ensures { IfOk result (λ datagram. datagram ≡ self.now) }
     {
@@ -155,7 +155,7 @@ impl Datagram {
 }
 
 impl Header {
-    /// Whether both are one: no field differs.
+    /// Whether the two are equal in all fields.
     pub fn is_same(&self, other: &Header) -> bool
         ensures { result ≡ same_header self.now other.now }
     {
@@ -166,7 +166,7 @@ impl Header {
             && self.length == other.length
     }
 
-    /// An equal header. It fails only for want of memory.
+    /// An equal header. Fails only if memory runs out.
     pub fn copy(&self) -> Result<Header, Memory>
         ensures { IfOk result (λ header. header ≡ self.now) }
     {

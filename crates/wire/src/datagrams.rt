@@ -1,4 +1,4 @@
-//! Bytes as a datagram.
+//! Parsing of bytes as a datagram.
 ghost use Rattle.std.specs.Prelude.{◌≡◌};
 ghost use Rattle.wire.specs.inside.Given.{Gives};
 ghost use Rattle.wire.specs.Reading.{
@@ -24,7 +24,7 @@ use ballots::{Body, Message};
 use package_record::LIMIT;
 use std::alloc::Global;
 
-/// The kinds of messages that go out in whole: Offer, Promise, Vote, Ask, Nay.
+/// The kinds of messages that are sent whole: Offer, Promise, Vote, Ask, Nay.
 const WHOLE_KINDS: [u8; 5] = [1, 2, 4, 6, 7];
 
 /// The kinds of messages that carry a build: Promise, Propose, Agreed.
@@ -40,7 +40,7 @@ fn promise(text: &[u8]) -> Result<(Body, &[u8]), ReadError>
     Ok((Body::Promise(claim, None), text))
 }
 
-/// The claim that is turned down, and the one that is promised.
+/// The claim that is rejected, and the one that is promised.
 #[tactic(auto, unfolding(crate::specs::Reading::nay_at))]
 fn nay(text: &[u8]) -> Result<(Body, &[u8]), ReadError>
     ensures { Gives (λ x. (x.0, x.1.now)) result (nay_at text.entry.now) }
@@ -50,7 +50,7 @@ fn nay(text: &[u8]) -> Result<(Body, &[u8]), ReadError>
     Ok((Body::Nay(offered, promised), text))
 }
 
-/// What a message of this kind says, which goes out in whole.
+/// The body of a message of this kind that is sent whole.
 fn body(kind: u8, text: &[u8]) -> Result<(Body, &[u8]), ReadError>
     ensures { Gives (λ x. (x.0, x.1.now)) result (body_at kind text.entry.now) }
 {
@@ -69,7 +69,7 @@ fn body(kind: u8, text: &[u8]) -> Result<(Body, &[u8]), ReadError>
     }
 }
 
-/// A message in whole.
+/// A whole message.
 #[tactic(auto, unfolding(crate::specs::Reading::whole_at))]
 fn whole(alloc: Global, text: &[u8]) -> Result<(Datagram, &[u8]), ReadError>
     ensures { Gives (λ x. (x.0, x.1.now)) result (whole_at text.entry.now) }
@@ -116,7 +116,7 @@ fn carrier(kind: u8, text: &[u8]) -> Result<(Carrier, &[u8]), ReadError>
     }
 }
 
-/// What all pieces of a message have in common.
+/// The fields that all pieces of a message share.
 #[tactic(auto, unfolding(crate::specs::Reading::header_at))]
 fn header(alloc: Global, text: &[u8]) -> Result<(Header, &[u8]), ReadError>
     ensures { Gives (λ x. (x.0, x.1.now)) result (header_at text.entry.now) }
@@ -140,7 +140,7 @@ fn header(alloc: Global, text: &[u8]) -> Result<(Header, &[u8]), ReadError>
     Ok((header, text))
 }
 
-/// The number of a piece of a build's text that has so many bytes.
+/// The number of a piece of a build's text of this length.
 #[tactic(auto, unfolding(crate::specs::Reading::piece_number_at))]
 fn piece_number(length: u32, text: &[u8]) -> Result<(u16, &[u8]), ReadError>
     ensures { Gives (λ x. (x.0, x.1.now)) result (piece_number_at length text.entry.now) }
@@ -171,7 +171,7 @@ fn piece(alloc: Global, text: &[u8]) -> Result<(Datagram, &[u8]), ReadError>
     Ok((Datagram::Piece(piece), text))
 }
 
-/// A datagram behind these four bytes.
+/// The datagram that follows these four bytes.
 fn behind<'a>(
     alloc: Global,
     magic: &[u8],

@@ -1,4 +1,4 @@
-//! Why bytes could not be read.
+//! Why bytes could not be parsed.
 ghost use Rattle.std.specs.Prelude.{◌≡◌};
 ghost use Rattle.wire.specs.inside.Given.{refusal_of};
 ghost use Rattle.wire.specs.declared.fault.ReadError.TheVariants.{Memory as out_of_memory};
@@ -6,7 +6,7 @@ ghost use Rattle.wire.specs.declared.fault.ReadError.TheVariants.{Memory as out_
 use crate::WireFault;
 use faults::WantOfMemory;
 
-/// Memory ran out, or the bytes have this fault.
+/// Out of memory, or this fault of the bytes.
 #[derive(Debug, Drop)]
 pub enum ReadError {
     Memory,

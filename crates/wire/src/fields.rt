@@ -1,4 +1,4 @@
-//! The fields that datagrams and notes are made of, each read from the front of what is left.
+//! The fields of datagrams and notes, each parsed from the front of the text.
 ghost use Rattle.std.specs.Prelude.{◌≡◌, ◌≤◌, IfOk, length};
 ghost use Rattle.package_record.specs.BuildReading.{whole_build_of};
 ghost use Rattle.wire.specs.inside.Given.{Gives};
@@ -22,7 +22,7 @@ use package_record::{Build, LIMIT, RecordFault};
 use pkgpath::{PathFault, PkgPath};
 use std::alloc::Global;
 
-/// What each datagram says first.
+/// The first fields of each datagram.
 #[derive(Drop)]
 pub struct Front {
     pub kind: u8,
@@ -31,14 +31,14 @@ pub struct Front {
     pub path: PkgPath,
 }
 
-/// A field is not what it has to be.
+/// The fault that a field is not as it has to be.
 fn bad_field() -> ReadError
     ensures { result ≡ ReadError.Fault WireFault.BadField }
 {
     ReadError::Fault(WireFault::BadField)
 }
 
-/// So many bytes, and what is behind them.
+/// This number of bytes, and what follows them.
 pub fn bytes<'a>(n: usize, text: &'a [u8]) -> Result<(&'a [u8], &'a [u8]), ReadError>
     ensures gives { Gives (λ x. (x.0.now, x.1.now)) result (bytes_at n text.entry.now) }
     ensures length { IfOk result (λ x. length x.0.now ≡ n) }
@@ -49,7 +49,7 @@ pub fn bytes<'a>(n: usize, text: &'a [u8]) -> Result<(&'a [u8], &'a [u8]), ReadE
     Ok(text.split_at(n))
 }
 
-/// A number of so many bytes, the greatest byte first, in this range.
+/// A big-endian number of n bytes, in this range.
 #[tactic(auto, unfolding(crate::specs::Reading::number_at))]
 pub fn number<'a>(
     n: usize,
@@ -86,7 +86,7 @@ pub fn claim(text: &[u8]) -> Result<(Claim, &[u8]), ReadError>
     Ok((claim, text))
 }
 
-/// The path that the text is, in its canonical form.
+/// The text as a path, which has to be in its canonical form.
 #[tactic(auto, unfolding(crate::specs::Reading::path_in))]
 fn canonical_path(alloc: Global, text: &[u8]) -> Result<PkgPath, ReadError>
     ensures { Gives (λ path. path) result (path_in text.now) }
@@ -98,7 +98,7 @@ fn canonical_path(alloc: Global, text: &[u8]) -> Result<PkgPath, ReadError>
     }
 }
 
-/// A path in its canonical form, behind its length.
+/// A path in its canonical form, preceded by its length.
 #[tactic(auto, unfolding(crate::specs::Reading::path_at))]
 pub fn path<'a>(alloc: Global, text: &'a [u8]) -> Result<(PkgPath, &'a [u8]), ReadError>
     ensures { Gives (λ x. (x.0, x.1.now)) result (path_at text.entry.now) }
@@ -134,7 +134,7 @@ pub fn whole_build(alloc: Global, unit: &PkgPath, text: &[u8]) -> Result<Build, 
     }
 }
 
-/// A build of this unit, behind the length of its text.
+/// A build of this unit, preceded by the length of its text.
 #[tactic(auto, unfolding(crate::specs::Reading::build_at))]
 pub fn build<'a>(
     alloc: Global,
@@ -159,7 +159,7 @@ fn digest(text: &[u8]) -> Result<([u8; 32], &[u8]), ReadError>
     Ok((digest, rest))
 }
 
-/// The fields that each datagram begins with, behind the four bytes that tell how it goes on.
+/// The first fields of each datagram, after the four bytes that identify its format.
 #[tactic(auto, unfolding(crate::specs::Reading::front_at))]
 pub fn first_fields<'a>(
     alloc: Global,

@@ -1,4 +1,4 @@
-//! A build that is known already, and comes again as a text.
+//! A build that is already known, and is received again as a text.
 ghost use Rattle.std.specs.Prelude.{◌≡◌, IfSome, IsTrue, Ok};
 ghost use Rattle.package_record.specs.Build.{IsBuild, unit_path};
 ghost use Rattle.package_record.specs.BuildReading.{whole_build_of};
@@ -15,8 +15,8 @@ fn is_of_unit(build: &Build, unit: &PkgPath) -> bool
     build.unit_path().as_bytes() == unit.as_bytes()
 }
 
-/// The build of this unit that is the whole text, where it is the known one. It is shared: nothing
-/// of the text is read. Without memory it says no.
+/// The build of this unit that is the whole text, if it is the known one. It is shared, and the
+/// text is not parsed. None also if memory runs out.
 pub fn same_build(known: &Build, unit: &PkgPath, text: &[u8]) -> Option<Build>
     ensures { IfSome result (λ build.
         build_in unit.now (whole_build_of text.now) ≡ Ok build) }

@@ -36,10 +36,10 @@ pub use crate::laws::{
     no_text_begins_another, pieces_join, places_and_lengths, texts_are_read_again,
 };
 
-/// The most bytes that a datagram may have.
+/// The maximum length of a datagram in bytes.
 pub const LONGEST: usize = 65_507;
 
-/// Why bytes are no datagram, or no note: the first fault from the left.
+/// Why bytes are not a datagram, or not a note: the first fault from the left.
 #[derive(Clone, Copy, Debug, PartialEq, Eq, Error)]
 pub enum WireFault {
     #[error("out of memory")]
@@ -48,13 +48,13 @@ pub enum WireFault {
     TooLong,
     #[error("the bytes end early")]
     Truncated,
-    #[error("the bytes do not begin as a datagram does")]
+    #[error("the bytes don't begin like a datagram")]
     Magic,
-    #[error("there is no such kind")]
+    #[error("the kind is unknown")]
     Kind,
     #[error("a field is out of its range")]
     BadField,
-    #[error("bytes follow")]
+    #[error("there are extra bytes at the end")]
     Trailing,
 }
 
@@ -88,7 +88,7 @@ impl Fault for WireFault {
     }
 }
 
-/// A message that goes out in one datagram.
+/// A message that is sent in one datagram.
 fn alone(alloc: Global, datagram: Datagram) -> Result<Vec<Datagram>, Memory>
     ensures { IfOk result (λ datagrams. datagrams.items ≡ datagram ∷ []) }
 {
@@ -97,9 +97,9 @@ fn alone(alloc: Global, datagram: Datagram) -> Result<Vec<Datagram>, Memory>
     Ok(datagrams)
 }
 
-/// The datagrams in which the message goes out: one, or its pieces in order of number if it carries
-/// a build. The message is taken apart: the bytes of its build are written into the pieces and
-/// nowhere else, beside the build itself and the header of one of its records.
+/// The datagrams in which the message is sent: one, or its pieces in order of number if it carries
+/// a build. The message is consumed: besides the build itself and the header of one of its records,
+/// its bytes are only stored in the pieces.
 pub fn split(alloc: Global, message: Message) -> Result<Vec<Datagram>, Memory>
     requires { IsMessage message }
     ensures { IfOk result (λ datagrams. datagrams.items ≡ split_of message) }
@@ -133,8 +133,8 @@ pub fn split(alloc: Global, message: Message) -> Result<Vec<Datagram>, Memory>
     pieces::numbered(alloc, &header, cuts.into_bytes(alloc)?)
 }
 
-/// The message that these pieces make: those with the header, in order of number, in whichever
-/// order they came. Bytes that are no build, or the build of another unit, are `BadField`.
+/// The message that these pieces join to: those with the header, in order of number, whatever order
+/// they are in here. Bytes that are not a build, or are one of another unit, are `BadField`.
 pub fn join(alloc: Global, header: Header, pieces: &[Piece]) -> Result<Message, WireFault>
     ensures { IsRightUnless WireFault.Memory result (joined header (bytes_of header pieces.now)) }
 {
@@ -143,8 +143,7 @@ pub fn join(alloc: Global, header: Header, pieces: &[Piece]) -> Result<Message, 
     Ok(message)
 }
 
-/// The same, where a build is known that may be the one which comes: then it is shared, and not
-/// read again.
+/// As `join`. If the build is the known one, it is shared and not parsed again.
 pub fn join_known(
     alloc: Global,
     header: Header,
@@ -158,7 +157,7 @@ pub fn join_known(
     Ok(message)
 }
 
-/// Appends the datagram's text, or nothing.
+/// Appends the datagram's text, or nothing if memory runs out.
 pub fn encode(datagram: &Datagram, out: &mut Vec<u8>) -> Result<(), Memory>
     requires { IsDatagram datagram.now }
     ensures ok { OnOk result (out.new.items ≡ out.old.items ++ datagram_text datagram.now) }
@@ -178,10 +177,10 @@ pub fn encode(datagram: &Datagram, out: &mut Vec<u8>) -> Result<(), Memory>
     }
 }
 
-/// The datagram whose text this is. It is tested in this order: the length, which is `TooLong` over
-/// `LONGEST`, and then its fields from the left, each whole (`Truncated`) and then in its range:
-/// the four bytes in front (`Magic`), the kind (`Kind`), and all others (`BadField`). Bytes behind
-/// the last are `Trailing`.
+/// The datagram with this text. First its length is tested: `TooLong` above `LONGEST`. Then its
+/// fields are tested from the left, first whether they are complete (`Truncated`) and then whether
+/// they are in range: the first four bytes (`Magic`), the kind (`Kind`), and all others
+/// (`BadField`). Bytes after the last field are `Trailing`.
 pub fn decode(alloc: Global, text: &[u8]) -> Result<Datagram, WireFault>
     ensures datagram { IfOk result (λ d. IsDatagram d × (text.now ≡ datagram_text d)) }
     ensures exact { IsRightUnless WireFault.Memory result (datagram_of text.now) }
@@ -190,7 +189,7 @@ pub fn decode(alloc: Global, text: &[u8]) -> Result<Datagram, WireFault>
     Ok(datagram)
 }
 
-/// Appends the note's text, or nothing.
+/// Appends the note's text, or nothing if memory runs out.
 pub fn encode_note(note: &Note, out: &mut Vec<u8>) -> Result<(), Memory>
     requires { IsNote note.now }
     ensures ok { OnOk result (out.new.items ≡ out.old.items ++ note_text note.now) }
@@ -201,8 +200,8 @@ pub fn encode_note(note: &Note, out: &mut Vec<u8>) -> Result<(), Memory>
     writing::append(out, front.as_slice(), text.as_slice())
 }
 
-/// The note whose text this is. Its fields are tested from the left, as those of a datagram, and
-/// bytes behind the last are `Trailing`. There is no test of the length.
+/// The note with this text. Its fields are tested from the left, as those of a datagram, and bytes
+/// after the last are `Trailing`. The length is not tested.
 pub fn decode_note(alloc: Global, text: &[u8]) -> Result<Note, WireFault>
     ensures note { IfOk result (λ n. IsNote n × (text.now ≡ note_text n)) }
     ensures exact { IsRightUnless WireFault.Memory result (note_of text.now) }

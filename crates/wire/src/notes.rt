@@ -1,4 +1,4 @@
-//! Bytes as a note.
+//! Parsing of bytes as a note.
 ghost use Rattle.std.specs.Prelude.{◌≡◌};
 ghost use Rattle.wire.specs.inside.Given.{Gives};
 ghost use Rattle.wire.specs.Reading.{fact_at, note_at, note_of, voted_at};
@@ -24,7 +24,7 @@ fn voted<'a>(alloc: Global, unit: &PkgPath, text: &'a [u8]) -> Result<(Fact, &'a
     Ok((Fact::Voted(claim, build), text))
 }
 
-/// The fact of a note of this kind on this unit.
+/// The fact of a note of this kind about this unit.
 fn fact<'a>(
     alloc: Global,
     unit: &PkgPath,

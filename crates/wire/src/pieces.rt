@@ -1,4 +1,4 @@
-//! A message in the datagrams in which it goes out, and pieces as the message that they make.
+//! Messages as datagrams, and pieces joined to messages.
 ghost use Rattle.std.specs.Prelude.{◌≡◌, ◌++◌, IfOk, OnOk, flat_map};
 ghost use Rattle.wire.specs.inside.Cuts.{AreCuts};
 ghost use Rattle.wire.specs.inside.Given.{Gives};
@@ -16,7 +16,7 @@ use faults::Memory;
 use package_record::Build;
 use std::alloc::Global;
 
-/// What carries the build and the build, or the body of a message that carries none.
+/// The carrier and the build, if the body has a build, and else the unchanged body.
 pub fn taken_apart(body: Body) -> Result<(Carrier, Build), Body>
     ensures { TakenApart body result }
 {
@@ -32,7 +32,7 @@ pub fn taken_apart(body: Body) -> Result<(Carrier, Build), Body>
     }
 }
 
-/// The body that carries the build so.
+/// The body with this carrier and this build.
 pub fn body_with(carrier: Carrier, build: Build) -> Body
     ensures { result ≡ body_with carrier build }
 {
@@ -43,7 +43,7 @@ pub fn body_with(carrier: Carrier, build: Build) -> Body
     }
 }
 
-/// The message with the header that carries the build.
+/// The message with this header and this build.
 fn message_with(header: Header, build: Build) -> Message
     ensures { result ≡ message_with header build }
 {
@@ -63,7 +63,7 @@ fn message_with(header: Header, build: Build) -> Message
     }
 }
 
-/// The message with the header whose build's text this is.
+/// The message with the header and the build with this text.
 pub fn message(alloc: Global, header: Header, text: &[u8]) -> Result<Message, ReadError>
     ensures { Gives (λ message. message) result (joined header text.now) }
 {
@@ -71,7 +71,7 @@ pub fn message(alloc: Global, header: Header, text: &[u8]) -> Result<Message, Re
     Ok(message_with(header, build))
 }
 
-/// The same, where a build is known that may be the one: then it is shared, and not read again.
+/// As `message`. If the build is the known one, it is shared and not parsed again.
 pub fn known_message(
     alloc: Global,
     header: Header,

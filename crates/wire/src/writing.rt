@@ -29,7 +29,7 @@ use package_record::Build;
 use pkgpath::PkgPath;
 use std::alloc::Global;
 
-/// Appends the number in so many bytes, the greatest first.
+/// Appends the number as n bytes, big-endian.
 pub fn put_number(out: &mut Vec<u8>, n: usize, number: u64) -> Result<(), Memory>
     requires some { 1 ≤ n }
     requires few { n ≤ 8 }
@@ -51,7 +51,7 @@ fn put_claim(out: &mut Vec<u8>, claim: Claim) -> Result<(), Memory>
     Ok(())
 }
 
-/// Appends how long the path is, and the path.
+/// Appends the length of the path, and the path.
 pub fn put_path(out: &mut Vec<u8>, path: &PkgPath) -> Result<(), Memory>
     ensures { OnOk result (out.new.items ≡ out.old.items ++ path_text path.now) }
 {
@@ -61,7 +61,7 @@ pub fn put_path(out: &mut Vec<u8>, path: &PkgPath) -> Result<(), Memory>
     Ok(())
 }
 
-/// Appends the fields that each datagram begins with.
+/// Appends the first fields of a datagram.
 fn put_front(
     out: &mut Vec<u8>,
     magic: &[u8],
@@ -94,7 +94,7 @@ fn kind(body: &Body) -> u8
     }
 }
 
-/// Appends what a message says that carries no build.
+/// Appends the body of a message that carries no build.
 fn put_body(out: &mut Vec<u8>, body: &Body) -> Result<(), Memory>
     requires { carried_in body.now ≡ None }
     ensures { OnOk result (out.new.items ≡ out.old.items ++ body_text body.now) }
@@ -135,7 +135,7 @@ pub fn message(alloc: Global, message: &Message) -> Result<Vec<u8>, Memory>
     Ok(text)
 }
 
-/// The number of the kind of message that carries a build so.
+/// The number of the kind of message with this carrier.
 fn kind_of_carrier(carrier: Carrier) -> u8
     ensures { result ≡ carrier_kind carrier }
 {
@@ -146,7 +146,7 @@ fn kind_of_carrier(carrier: Carrier) -> u8
     }
 }
 
-/// Appends what stands before the build.
+/// Appends what precedes the build.
 fn put_carrier(out: &mut Vec<u8>, carrier: Carrier) -> Result<(), Memory>
     ensures { OnOk result (out.new.items ≡ out.old.items ++ carrier_text carrier) }
 {
@@ -161,7 +161,7 @@ fn put_carrier(out: &mut Vec<u8>, carrier: Carrier) -> Result<(), Memory>
     }
 }
 
-/// What each piece with this header begins with, and the number of one of them.
+/// The first bytes of each piece with this header, and the number of one of them.
 pub fn header(alloc: Global, header: &Header, number: u16) -> Result<Vec<u8>, Memory>
     ensures { IfOk result (λ text. text.items ≡ header_text header.now ++ big_bytes 2 number) }
 {
@@ -187,7 +187,7 @@ fn kind_of_fact(fact: &Fact) -> u8
     }
 }
 
-/// Appends how long the build's text is, and gives that text.
+/// Appends the length of the build's text, and returns that text.
 fn put_size(alloc: Global, out: &mut Vec<u8>, build: &Build) -> Result<Vec<u8>, Memory>
     requires { IsBuild build.now }
     ensures { IfOk result (λ text. out.new.items ++ text.items
@@ -199,8 +199,8 @@ fn put_size(alloc: Global, out: &mut Vec<u8>, build: &Build) -> Result<Vec<u8>, 
     Ok(text)
 }
 
-/// Appends what is known of the unit up to the text of a build, and gives that text, which is empty
-/// where there is no build.
+/// Appends the text of the fact up to that of a build, and returns the build's text, which is empty
+/// if there is no build.
 fn put_fact(alloc: Global, out: &mut Vec<u8>, fact: &Fact) -> Result<Vec<u8>, Memory>
     requires { HasGoodBuild fact.now }
     ensures { IfOk result (λ text. out.new.items ++ text.items

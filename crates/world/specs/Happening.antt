@@ -1,4 +1,4 @@
--- What an event asks of its node, what it leaves, and why it is refused.
+-- What an event asks of its node, the world that it leaves, and why it is refused.
 use Rattle.std.specs.Prelude.{◌≡◌, ◌⊎◌, ◌&&◌, ℕ, Bool, true, false, not, nat_le, List, [], ◌∷◌, Option, None, Some, Ok, Err, length, slice_get}
 use Rattle.faults.specs.Answers.{first_that_applies}
 use Rattle.faults.specs.Bytes.{Text}
@@ -9,9 +9,9 @@ use Rattle.protocol.specs.declared.input.Input.TheVariants as inputs
 use Rattle.node.specs.OnLog.{IsFull}
 use Rattle.node.specs.State.{with_note}
 use Rattle.node.specs.Step.{Asked, Comes, Does, IsAsked, Taken, Takes, after}
-use Rattle.events.specs.Events.{Event, Claim, Built, Failed, Nudge, Ask, Deliver, Stop, StopIn, Restart, is_step, node_of}
-use Rattle.events.specs.declared.event.Left.{Left}
-use Rattle.events.specs.declared.event.Left.TheVariants as left
+use Rattle.protocol.specs.Events.{Event, Claim, Built, Failed, Nudge, Ask, Deliver, Stop, StopIn, Restart, is_step, node_of}
+use Rattle.protocol.specs.declared.event.Left.{Left}
+use Rattle.protocol.specs.declared.event.Left.TheVariants as left
 use Rattle.node.specs.declared.fault.NodeFault.{NodeFault}
 use Rattle.node.specs.declared.fault.NodeFault.TheVariants as node_fault
 use Rattle.stable_record.specs.declared.log_fault.LogFault.TheVariants.{Full}
@@ -23,7 +23,7 @@ use Rattle.world.specs.declared.fault.WorldFault.TheVariants as fault
 
 -- ---- what it asks
 
--- The event asks this of its node. A datagram comes as the bytes that were sent.
+-- The event asks this of its node. For a delivery, it is the bytes of the datagram that was sent.
 abbrev pub Asks : World → Event → Asked → Type 0
 Asks w (Claim n path host above) asked = asked ≡ Does (inputs.Claim path host above)
 Asks w (Built n path packages) asked = asked ≡ Does (inputs.Built path packages)
@@ -35,12 +35,12 @@ Asks w (Stop n) asked = ⊥
 Asks w (StopIn e left) asked = Asks w e asked
 Asks w (Restart n) asked = ⊥
 
--- This is the event's node, and it is up.
+-- `x` is the event's node, and it is up.
 pub record IsUp (w : World) (e : Event) (x : WorldNode) : Type 0 where
   pub stands : slice_get w.nodes (node_of e) ≡ Some x
   pub up : x.up ≡ true
 
--- The event's node is up, and this is its step on what the event asks. A host has a number of 16
+-- The event's node is up, and `t` is its step on what the event asks. A host number has at most 16
 -- bits.
 pub record Acts (w : World) (e : Event) (x : WorldNode) (t : Taken) : Type 0 where
   pub is_up : IsUp w e x
@@ -51,15 +51,15 @@ pub record Acts (w : World) (e : Event) (x : WorldNode) (t : Taken) : Type 0 whe
 
 -- ---- what it leaves
 
--- the world once node k took this step, where the list is this one then
+-- the world after node k took this step; `list` is the agreed list after it
 abbrev pub stepped : World → ℕ → WorldNode → Taken → List Content → World
 stepped w k x t list = record (with_node w k (up_node (after (node_at w k x) t))) {
   sent = with_sends w.sent t.answer.sends;
   agreed = list;
 }
 
--- The whole step: the note stands, the datagrams are sent, and the list goes on: `list` says to
--- what, and `leaves` that all else of the later world is as the step left it.
+-- A complete step: its note is appended to the log and its datagrams are sent. `list` says how the
+-- agreed list grows, and `leaves` that the step determines everything else in the later world.
 pub record Steps (w : World) (e : Event) (w' : World) : Type 0 where
   pub node : WorldNode
   pub taken : Taken
@@ -68,19 +68,19 @@ pub record Steps (w : World) (e : Event) (w' : World) : Type 0 where
   pub list : IsListAfter w (with_sends w.sent taken.answer.sends) w'.agreed
   pub leaves : w' ≡ stepped w (node_of e) node taken w'.agreed
 
--- the node where it stopped inside a step with this note, and that much was left of it
+-- the node after a stop inside a step with this note; the `Left` says how much of the note remains
 abbrev pub left_node : Left → List (Note Value) → Option (Note Value) → WorldNode
 left_node left.None notes noted = down_node notes []
 left_node (left.Torn bytes) notes noted = down_node notes bytes
 left_node left.Whole notes noted = down_node (with_note notes noted) []
 
--- a whole note is left only where the log has room for it
+-- A whole note can remain only if the log has room for it.
 abbrev pub HasRoomFor : World → ℕ → WorldNode → Left → Option (Note Value) → Type 0
 HasRoomFor w k x left.None noted = Prim.Unit {0}
 HasRoomFor w k x (left.Torn bytes) noted = Prim.Unit {0}
 HasRoomFor w k x left.Whole noted = ¬ IsFull (node_at w k x) noted
 
--- A stop inside a step: the node is down with the notes that are left, and nothing was sent.
+-- A stop inside a step: the node is down with the notes that remain, and nothing was sent.
 pub record StopsIn (w : World) (e : Event) (l : Left) (w' : World) : Type 0 where
   pub node : WorldNode
   pub taken : Taken
@@ -95,14 +95,14 @@ pub record Stops (w : World) (n : ℕ) (w' : World) : Type 0 where
   pub is_up : IsUp w (Stop n) node
   pub leaves : w' ≡ with_node w n (down_node node.notes [])
 
--- A restart: the node has what its notes restore, no open claim, and no pieces.
+-- A restart: the node has what its notes restore, no open claim and no pieces.
 pub record Restarts (w : World) (n : ℕ) (w' : World) : Type 0 where
   pub node : WorldNode
   pub stands : slice_get w.nodes n ≡ Some node
   pub down : node.up ≡ false
   pub leaves : w' ≡ with_node w n (restarted_node node.notes)
 
--- The event happens in the world, and leaves the other one.
+-- The event can happen in world `w`, and it leaves world `w'`.
 abbrev pub Happens : World → Event → World → Type 0
 Happens w (Claim n path host above) w' = Steps w (Claim n path host above) w'
 Happens w (Built n path packages) w' = Steps w (Built n path packages) w'
@@ -114,14 +114,14 @@ Happens w (Stop n) w' = Stops w n w'
 Happens w (StopIn e l) w' = StopsIn w e l w'
 Happens w (Restart n) w' = Restarts w n w'
 
--- From the first world these events lead to the last, in turn.
+-- The events, one after another, lead from the first world to the last.
 abbrev pub Leads : World → List Event → World → Type 0
 Leads w [] w' = w' ≡ w
 Leads w (e ∷ es) w' = (v : World) × Happens w e v × Leads v es w'
 
 -- ---- why it is refused
 
--- Whether the node is up, if there is one.
+-- Whether there is a node and it is up.
 abbrev pub up_of : Option WorldNode → Bool
 up_of None = false
 up_of (Some x) = x.up
@@ -142,7 +142,7 @@ is_restart (Stop n) = false
 is_restart (StopIn e l) = false
 is_restart (Restart n) = true
 
--- Whether it is a stop inside what is no step.
+-- Whether the event is a stop inside an event that isn't a step.
 abbrev pub is_bad_stop : Event → Bool
 is_bad_stop (Claim n path host above) = false
 is_bad_stop (Built n path packages) = false
@@ -154,7 +154,7 @@ is_bad_stop (Stop n) = false
 is_bad_stop (StopIn e l) = not (is_step e)
 is_bad_stop (Restart n) = false
 
--- Whether it delivers a datagram that was not sent.
+-- Whether the event delivers a datagram that was not sent.
 abbrev pub lacks_datagram : World → Event → Bool
 lacks_datagram w (Claim n path host above) = false
 lacks_datagram w (Built n path packages) = false
@@ -166,7 +166,7 @@ lacks_datagram w (Stop n) = false
 lacks_datagram w (StopIn e l) = lacks_datagram w e
 lacks_datagram w (Restart n) = false
 
--- what is tested before the node is asked, in this order
+-- the fault found before the node is asked: the first of these tests that applies
 abbrev pub fault_before : World → Event → Option WorldFault
 fault_before w e = first_that_applies (
     (is_bad_stop e, fault.BadTrace 0)
@@ -176,7 +176,7 @@ fault_before w e = first_that_applies (
     ∷ (lacks_datagram w e, fault.NoSuchDatagram)
     ∷ [])
 
--- The node takes no step on what the event asks.
+-- The node refuses what the event asks, with fault `f`.
 pub record NodeRefuses (w : World) (e : Event) (f : NodeFault) : Type 0 where
   pub node : WorldNode
   pub is_up : IsUp w e node
@@ -184,7 +184,7 @@ pub record NodeRefuses (w : World) (e : Event) (f : NodeFault) : Type 0 where
   pub asks : Asks w e asked
   pub refuses : Takes (node_at w (node_of e) node) asked (Err f)
 
--- Whether the event leaves the note of its step on the log.
+-- Whether the event leaves the whole note of its step in the log.
 abbrev pub leaves_note : Event → Bool
 leaves_note (Claim n path host above) = true
 leaves_note (Built n path packages) = true
@@ -206,12 +206,12 @@ pub record LogIsFull (w : World) (e : Event) : Type 0 where
   pub noted : leaves_note e ≡ true
   pub full : IsFull (node_at w (node_of e) node) taken.answer.note
 
--- the node refuses the event with this
+-- The node refuses the event with this fault.
 abbrev pub IsRefusedByNode : World → Event → WorldFault → Type 0
 IsRefusedByNode w e f =
     ((r : NodeFault) × NodeRefuses w e r × (f ≡ fault.Node r))
     ⊎ (LogIsFull w e × (f ≡ fault.Node (node_fault.Log Full)))
 
--- the event is refused with this
+-- The event is refused with this fault.
 abbrev pub IsRefused : World → Event → WorldFault → Type 0
 IsRefused w e f = (fault_before w e ≡ Some f) ⊎ ((fault_before w e ≡ None) × IsRefusedByNode w e f)

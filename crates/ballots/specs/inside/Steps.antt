@@ -1,7 +1,7 @@
--- The steps that bodies take, in their cases.
+-- The steps of the code, by case.
 use Rattle.std.specs.Prelude.{Option, None, Some, if◌then◌else◌, unwrap_or}
-use Rattle.agreement.specs.declared.claim.Claim.{Claim}
-use Rattle.agreement.specs.Quorums.{is_majority}
+use Rattle.claims.specs.declared.claim.Claim.{Claim}
+use Rattle.claims.specs.Quorums.{is_majority}
 use Rattle.ballots.specs.Pledge.{Pledge}
 use Rattle.ballots.specs.Support.{Support, of_nobody, set_of}
 use Rattle.ballots.specs.declared.claimer.ClaimerChange.TheVariants as change
@@ -10,7 +10,7 @@ use Rattle.ballots.specs.declared.claimer.Next.TheVariants as next
 use Rattle.ballots.specs.declared.message.Body.TheVariants.{Nay}
 use Rattle.ballots.specs.declared.voter.VoterStep.{VoterStep}
 
--- the claim is turned down for the one that is promised
+-- the claim is rejected, because of the one that is promised
 abbrev pub refusal_of : {V : Type 0} → Pledge V → Claim → VoterStep V
 refusal_of v c =
     record { note = None; answer = Nay c (unwrap_or v.promised c); change = None }
@@ -19,22 +19,22 @@ refusal_of v c =
 abbrev pub idle_step : {V : Type 0} → ClaimerStep V
 idle_step = record { next = next.Nothing; change = change.Stays }
 
--- a member joined: this is the tally now, and the report that is kept
+-- a member joined; this is the new tally, and the greatest report so far
 abbrev pub joining_step : {V : Type 0} → Support → Option (Claim × V) → ClaimerStep V
 joining_step t report = record { next = next.Nothing; change = change.Joins t report }
 
--- the step once a quorum promised: what was reported is proposed, and else a value is built
+-- the step after a quorum promised: the reported value is proposed, or else a value is built
 abbrev pub quorum_step : {V : Type 0} → Claim → Support → Option (Claim × V) → ClaimerStep V
 quorum_step c t None = record { next = next.Build; change = change.Builds }
 quorum_step c t (Some b) =
     record { next = next.Propose c b.1; change = change.Proposes b.1 (of_nobody t.weights) }
 
--- the step once a promise is counted, where this is the greatest report
+-- the step after a promise is counted; this is the greatest report so far
 abbrev pub gathering_step : {V : Type 0} → Claim → Support → Option (Claim × V) → ClaimerStep V
 gathering_step c t report =
     if is_majority t.weights (set_of t) then quorum_step c t report else joining_step t report
 
--- the step once a vote is counted
+-- the step after a vote is counted
 abbrev pub voting_step : {V : Type 0} → Support → V → ClaimerStep V
 voting_step t v =
     if is_majority t.weights (set_of t)

@@ -1,4 +1,4 @@
--- What a contract sees of a job's fields, and what it does not.
+-- How contracts see the fields of a job, and what they don't see.
 use Rattle.claims.specs.Deps.{AreAscending, AreInOrder}
 use Rattle.claims.specs.Job.{Task}
 use Rattle.claims.specs.declared.job.Job.TheInside.{Inside}
@@ -13,7 +13,7 @@ task_of job = record {
   deps = job.deps;
 }
 
--- Packages and dependencies are in order of path, each path once.
+-- Packages and dependencies are in ascending order of path, without repetition.
 pub record IsInOrder (job : Inside) : Type 0 where
   pub packages : AreAscending job.packages.items
   pub deps : AreInOrder job.deps

@@ -1,4 +1,4 @@
--- What is gathered of a tree's packages, position by position.
+-- The intermediate state while the packages of a tree are gathered, position by position.
 use Rattle.std.specs.Prelude.{◌≡◌, ℕ, Bool, ◌&&◌, ◌++◌, not, zero, suc, List, [], ◌∷◌, Option, None, Some, Vec, if◌then◌else◌, filter, map, position}
 use Rattle.std.specs.List.{list_any, range_with_len}
 use Rattle.std.specs.Str.{bytes_eq}
@@ -11,26 +11,26 @@ use Rattle.engine.specs.declared.gathering.Gathered.{Gathered}
 abbrev pub lists_of : {Z : Type 0} → List (Vec ℕ Z) → List (List ℕ)
 lists_of = map (λ v. v.items)
 
--- the lists with p behind the k-th, or as a list of its own behind the last
+-- the lists, with p appended to the k-th; if there are no more than k lists, p is a new last one
 abbrev pub put_at : List (List ℕ) → ℕ → ℕ → List (List ℕ)
 put_at [] k p = (p ∷ []) ∷ []
 put_at (ps ∷ rest) zero p = (ps ++ p ∷ []) ∷ rest
 put_at (ps ∷ rest) (suc k) p = ps ∷ put_at rest k p
 
--- the package at q is of the group of that at p, and not ignored
+-- Whether the package at q is in the group of the one at p, and not ignored.
 abbrev pub is_with : Tree → (ℕ → Bool) → ℕ → ℕ → Bool
 is_with tree ignored p q = bytes_eq (group_at tree q) (group_at tree p) && not (ignored q)
 
--- the package at p is not ignored, and none before it is made with it
+-- Whether the package at p is not ignored, and the first of its unit.
 abbrev pub is_first : Tree → (ℕ → Bool) → ℕ → Bool
 is_first tree ignored p =
     not (ignored p) && not (list_any (is_with tree ignored p) (range_with_len 0 p))
 
--- of the first n packages, those that are the first of their units
+-- those of the first n packages that are the first of their units
 abbrev pub firsts : Tree → (ℕ → Bool) → ℕ → List ℕ
 firsts tree ignored n = filter (is_first tree ignored) (range_with_len 0 n)
 
--- of the first n packages, those that are made with that at p
+-- those of the first n packages that are made with the one at p
 abbrev pub made_below : Tree → (ℕ → Bool) → ℕ → ℕ → List ℕ
 made_below tree ignored n p = filter (is_with tree ignored p) (range_with_len 0 n)
 
@@ -38,19 +38,19 @@ made_below tree ignored n p = filter (is_with tree ignored p) (range_with_len 0 
 abbrev pub groups_below : Tree → (ℕ → Bool) → ℕ → List Text
 groups_below tree ignored n = map (group_at tree) (firsts tree ignored n)
 
--- the place of its group among these; none where the package is ignored
+-- the index of the package's group among these; None if the package is ignored
 abbrev pub place_of : Tree → (ℕ → Bool) → List Text → ℕ → Option ℕ
 place_of tree ignored groups p =
     if ignored p then None else position (bytes_eq (group_at tree p)) groups
 
--- this is what is gathered of the first n packages
+-- The gathered state after the first n packages.
 pub record AreGathered (tree : Tree) (ignored : ℕ → Bool) (n : ℕ) (g : Gathered) : Type 0 where
   pub groups : g.groups.keys ≡ groups_below tree ignored n
   pub packages : lists_of g.packages.items ≡ map (made_below tree ignored n) (firsts tree ignored n)
   pub numbers : g.numbers.items
       ≡ map (place_of tree ignored (groups_below tree ignored n)) (range_with_len 0 n)
 
--- one more package is taken in, which is of this group
+-- One more package, of this group, is gathered.
 pub record Takes (group : Text) (p : ℕ) (old new : Gathered) : Type 0 where
   pub number : ℕ
   pub found : position (bytes_eq group) new.groups.keys ≡ Some number

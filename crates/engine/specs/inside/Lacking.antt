@@ -1,7 +1,7 @@
--- How many positions meet a condition.
+-- The number of positions that meet a condition.
 use Rattle.std.specs.Prelude.{◌≡◌, ◌⊎◌, ℕ, zero, suc}
 
--- so many of the positions below n meet the condition
+-- exactly m of the positions below n meet the condition
 abbrev pub AreSoMany : (ℕ → Type 0) → ℕ → ℕ → Type 0
 AreSoMany P zero m = m ≡ 0
 AreSoMany P (suc n) m =

@@ -1,4 +1,4 @@
--- The packages that may become installable with one that is built, and those of them that do.
+-- Which packages may become installable when one is built, and which of them do.
 use Rattle.std.specs.Prelude.{◌≡◌, ◌+◌, ◌<◌, ◌≤◌, ◌++◌, ℕ, Bool, true, false, List, [], Vec, All, Contains, count_by, length, slice_index_or, sum_by, vec_capacity}
 use Rattle.graph.specs.Lists.{list_at, one_if, times}
 use Rattle.graph.specs.Marks.{has_mark}
@@ -7,22 +7,22 @@ use Rattle.engine.specs.declared.Letter.{Letter}
 use Rattle.engine.specs.declared.Letter.TheVariants.{B}
 use Rattle.engine.specs.shared.Shown.{letter_at}
 
--- how many have a mark
+-- how many are marked
 abbrev pub marked_many : List Bool → ℕ
 marked_many marks = count_by (λ m. m) marks
 
--- between two searches nothing is marked, and there is room to find all and to drop all
+-- Between two searches nothing is marked, and there is room to find all packages and to drop all.
 pub record AreIdle {Z : Type 0} (marks : List Bool) (found dropped : Vec ℕ Z) : Type 0 where
   pub unmarked : (p : ℕ) → has_mark marks p ≡ false
   pub room : length marks ≤ vec_capacity found
   pub room_to_drop : length marks ≤ vec_capacity dropped
 
--- how often the lists of these positions have the position
+-- how many times the lists of these positions contain the position
 abbrev pub told : List (List ℕ) → ℕ → List ℕ → ℕ
 told lists p xs = sum_by (λ x. times p (list_at lists x)) xs
 
--- the position is marked, and with each marked one the built ones of its list; all marked ones are
--- built
+-- The position is marked; for each marked one, the built ones in its list are marked too; and all
+-- marked ones are built.
 pub record IsGathered
     (letters : List Letter) (runs : List (List ℕ)) (p : ℕ) (marks : List Bool)
     (found : List ℕ) : Type 0 where
@@ -32,7 +32,7 @@ pub record IsGathered
   pub closed : (x y : ℕ) → has_mark marks x ≡ true → Contains (list_at runs x) y
       → letter_at letters y ≡ B → has_mark marks y ≡ true
 
--- those that lost their marks were dropped, each once
+-- Those that lost their marks were dropped, each once.
 pub record AreParted
     (marks_before marks : List Bool) (dropped_before dropped : List ℕ) : Type 0 where
   pub once : (p : ℕ) → one_if (has_mark marks p) + times p dropped
@@ -40,27 +40,27 @@ pub record AreParted
   pub as_many : marked_many marks + length dropped
       ≡ marked_many marks_before + length dropped_before
 
--- behind the dropped ones stand some more of these positions, which were marked
+-- Some of these positions, which were marked, were appended to the dropped ones.
 abbrev pub Adds : List ℕ → List Bool → List ℕ → List ℕ → Type 0
 Adds positions marks before dropped =
     (more : List ℕ) × (dropped ≡ before ++ more)
     × All (λ y. Contains positions y × (has_mark marks y ≡ true)) more
 
--- the set has with each member all marked ones of its list
+-- The set contains, with each member, all marked ones in its list.
 abbrev pub IsClosedIn : List (List ℕ) → List Bool → (ℕ → Bool) → Type 0
 IsClosedIn runs marks S =
     (x y : ℕ) → S x ≡ true → Contains (list_at runs x) y → has_mark marks y ≡ true → S y ≡ true
 
--- each such set that has the first ones has all dropped ones
+-- Each such set that contains the first ones contains all dropped ones.
 abbrev pub IsCaused : List (List ℕ) → List Bool → List ℕ → List ℕ → Type 0
 IsCaused runs marks first dropped =
     (S : ℕ → Bool) → All (λ q. S q ≡ true) first → IsClosedIn runs marks S
     → All (λ q. S q ≡ true) dropped
 
--- Of the marked ones, which were found, some are left, which lack nothing, and some were dropped,
--- which lack something. Each lacks as many less as the lists of those that are left have it. Each
--- set has all dropped ones that is closed among the marked ones and has those that lack more than
--- marked ones.
+-- Of the found packages, which were marked, some are left, which lack nothing, and some were
+-- dropped, which lack something. The count of each package is lower by the number of times that the
+-- lists of those that are left contain it. A set contains all dropped ones if it is closed among
+-- the marked ones and contains those that lack more than marked ones.
 pub record IsSifted
     (runs : List (List ℕ)) (found : List ℕ) (marks left : List Bool)
     (dropped before now : List ℕ) : Type 0 where
@@ -74,7 +74,7 @@ pub record IsSifted
       → S y ≡ true)
       → IsClosedIn runs marks S → All (λ q. S q ≡ true) dropped
 
--- what is known of those that were found with a position
+-- what is known of the packages found for a position
 pub record IsSettled
     (letters : List Letter) (before now : List ℕ) (runs : List (List ℕ)) (p : ℕ)
     (found : List ℕ) : Type 0 where

@@ -1,4 +1,4 @@
--- The positions that are agreed, by the letters that are kept.
+-- The positions that are agreed, according to the stored letters.
 use Rattle.std.specs.Prelude.{ℕ, Bool, cond, List, length, map, zero, suc}
 use Rattle.std.specs.FinSet as set
 use Rattle.std.specs.Ordering.{nat_cmp}

@@ -1,4 +1,4 @@
--- What holds of the parts of an engine.
+-- The invariant of the parts of an engine.
 use Rattle.std.specs.Prelude.{◌≡◌, ◌<◌, ◌^◌, ℕ, Bool, List, length, slice_index_or}
 use Rattle.graph.specs.Lists.{AreReversed}
 use Rattle.graph.specs.Walked.{Walked}
@@ -10,13 +10,13 @@ use Rattle.engine.specs.Letters.{IsInstallable}
 use Rattle.engine.specs.inside.Queueing.{AreQueueing, needs_of, waited_for}
 use Rattle.engine.specs.shared.Shown.{is_held, letter_at}
 
--- the package at the position is held, by its letter
+-- Whether the package at the position is held, by its letter.
 abbrev pub holds : List Letter → ℕ → Bool
 holds letters p = is_held (letter_at letters p)
 
--- The letters are those of the packages. Of each is counted how many it needs to run that have
--- another letter than I, and of each unit what it waits for. Where a package has the letter B,
--- there is no set of held ones that has it and, with each member, all that this needs to run.
+-- The letters are those of the packages. For each package, the number of its run dependencies with
+-- another letter than I is counted, and for each unit, what it waits for. If a package has the
+-- letter B, no set of held packages contains it and all run dependencies of its members.
 pub record AreKept
     (d : Division) (letters : List Letter) (lacks waits : List ℕ) (runs needs : List (List ℕ))
     (search : Walked) : Type 0 where

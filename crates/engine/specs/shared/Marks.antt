@@ -5,15 +5,15 @@ use Rattle.listing.specs.Tree.{Tree, build_at, is_marked_at, run_at}
 use Rattle.engine.specs.Ignored.{HoldsTheMarked, IsIgnored}
 use Rattle.engine.specs.Units.{positions}
 
--- what the package at a position depends on
+-- the dependencies of the package at a position
 abbrev pub deps_at : Tree → ℕ → List ℕ
 deps_at tree p = build_at tree p ++ run_at tree p
 
--- the packages that the tree itself marks
+-- the packages that are marked in the tree
 abbrev pub marked_of : Tree → List ℕ
 marked_of tree = filter (is_marked_at tree) (positions tree)
 
--- so many marks, of which those at these positions are set
+-- There are `len` marks, and those at these positions are set.
 pub record AreMarksOf (len : ℕ) (ps : List ℕ) (marks : List Bool) : Type 0 where
   pub each : length marks ≡ len
   pub are : (p : ℕ) → (has_mark marks p ≡ true) ↔ Contains ps p

@@ -1,4 +1,4 @@
--- How the rows of a table stand for what lines set.
+-- How the rows of a table represent what lines set.
 use Rattle.std.specs.Prelude.{◌≡◌, ◌<◌, ◌≤◌, ◌++◌, ◌∷◌, ◌⊎◌, ℕ, List, [], All, length, find, option_and_then, option_map, Option, None, Some, IfSome, MatchResult, Ok, Result, is_some, if◌then◌else◌}
 use Rattle.std.specs.List.{slice_index_or, IsDistinct}
 use Rattle.std.specs.Str.{bytes_eq}
@@ -21,7 +21,7 @@ use Rattle.listing.specs.declared.table.Table.{Table}
 use Rattle.listing.specs.declared.table.Value.{Value}
 use denote.Ref.{Bor}
 
--- what a variable is set to in a row
+-- the value of a variable in a row
 abbrev pub value_in : Variable → Row → Option Value
 value_in FullName row = row.name
 value_in BuildDepends row = row.build
@@ -29,7 +29,7 @@ value_in LibDepends row = row.lib
 value_in RunDepends row = row.run
 value_in Ignore row = row.ignore
 
--- the row with one more value, where none was set
+-- the row with one more value; a value that is already set stays
 abbrev pub with_value : Row → Variable → Value → Row
 with_value row FullName x = record row { name = option_or row.name (Some x) }
 with_value row BuildDepends x = record row { build = option_or row.build (Some x) }
@@ -37,11 +37,11 @@ with_value row LibDepends x = record row { lib = option_or row.lib (Some x) }
 with_value row RunDepends x = record row { run = option_or row.run (Some x) }
 with_value row Ignore x = record row { ignore = option_or row.ignore (Some x) }
 
--- what a variable is set to, as a text
+-- the text of a variable's value in a row
 abbrev pub text_in : Variable → Row → Option Text
 text_in v row = option_map (λ x. x.text.now) (value_in v row)
 
--- a line sets a variable of a path to a value
+-- the setting of a variable of a path to a value, by a line
 abbrev pub setting : ℕ → Text → Variable → Text → Setting
 setting line path variable value = record {
   line = line;
@@ -50,13 +50,13 @@ setting line path variable value = record {
   value = value;
 }
 
--- the name, where the value was read as one
+-- the name, if the value was read as a name
 abbrev pub name_read : Reading → Option Text
 name_read (Name name) = Some name
 name_read (Numbers numbers) = None
 name_read Unread = None
 
--- the package's name in a row, if one was set
+-- the package's name in a row, if it is set
 abbrev pub name_in : Row → Option Text
 name_in row = option_and_then (λ x. name_read x.reading) row.name
 
@@ -64,7 +64,7 @@ name_in row = option_and_then (λ x. name_read x.reading) row.name
 abbrev pub row_fault : Row → Option ListingFault
 row_fault row = if is_some (name_in row) then None else Some (NoName row.line)
 
--- the row holds what the lines set for the path
+-- The row has exactly what the settings set for the path.
 pub record IsRowOf (settings : List Setting) (words : List Text) (path : Text)
     (row : Row) : Type 0 where
   pub line : option_map (λ s. s.line) (find (λ s. bytes_eq s.path path) settings) ≡ Some row.line
@@ -72,7 +72,7 @@ pub record IsRowOf (settings : List Setting) (words : List Text) (path : Text)
   pub reads : (v : Variable) → IfSome (value_in v row) (λ x. IsReadAs words v x.text.now x.reading)
   pub spelled : path_of row.spelled.now ≡ Ok path
 
--- a row in which nothing is set, of a path that is spelled so
+-- a row in which nothing is set, with the first line of its path and the spelling there
 abbrev pub new_row : ℕ → Bor Text → Row
 new_row line spelled = record {
   line = line;
@@ -84,16 +84,16 @@ new_row line spelled = record {
   ignore = None;
 }
 
--- read only where a position is past the end
+-- read only if a position is out of range
 abbrev pub no_row : Row
 no_row = new_row 0 (record { ref_ptr = (0, 0); now = [] })
 
--- in the first line of the row at the position, this text spells the path
+-- This text spells the path of the row at the index, in the first line of that path.
 abbrev pub IsSpelled : List Row → ℕ → Text → Type 0
 IsSpelled rows at spelled =
     (at < length rows) × ((slice_index_or rows at no_row).spelled.now ≡ spelled)
 
--- paths, each with its row, hold what the lines set
+-- The paths and their rows represent exactly these settings.
 pub record AreRowsOf (settings : List Setting) (words : List Text) (paths : List Text)
     (rows : List Row) : Type 0 where
   pub all : paths ≡ paths_of settings
@@ -104,12 +104,12 @@ pub record AreRowsOf (settings : List Setting) (words : List Text) (paths : List
   pub few : length paths ≤ most_paths
   pub spelled : All IsPath paths
 
--- the table holds what the lines set
+-- The table represents exactly these settings.
 abbrev pub Stands : Table → List Setting → Type 0
 Stands table settings = AreRowsOf settings table.dependencies table.paths.keys table.rows.items
 
--- behind what earlier lines set, the table takes in what one more line sets, or the call tells the
--- fault of that, unless memory ran out
+-- After the settings of earlier lines, the call adds one more setting to the table, or returns the
+-- setting's fault, or runs out of memory.
 abbrev pub IsTakenIn : Table → Setting → Result Unit ListingFault → Table → Type 0
 IsTakenIn old s result new =
     (earlier : List Setting) → Stands old earlier → MatchResult result

@@ -1,4 +1,4 @@
--- The steps that are made of a voter's and a claimer's.
+-- Steps that are made of a voter's or a claimer's step.
 use Rattle.std.specs.Prelude.{ℕ, List, [], ◌∷◌, Option, None, Some, option_map}
 use Rattle.claims.specs.Job.{Task}
 use Rattle.ballots.specs.declared.claimer.ClaimerChange.{ClaimerChange}
@@ -18,11 +18,11 @@ use Rattle.protocol.specs.declared.sends.Send.{Send}
 use Rattle.member.specs.Prepared.{Prepared}
 use Rattle.member.specs.declared.step.ClaimChange.TheVariants.{Stays, Counts}
 
--- the note on the unit
+-- the note of this fact about the unit
 abbrev pub on_unit : State → ℕ → Fact Value → Note Value
 on_unit s u fact = record { path = name_at s u; fact = fact }
 
--- a voter's step, which answers the claim's member
+-- a voter's step: it answers the member that made the claim
 abbrev pub voter_prepared : State → ℕ → ℕ → Option (Fact Value) → Body Value → Prepared
 voter_prepared s u to note said = record {
   note = option_map (on_unit s u) note;
@@ -35,7 +35,7 @@ voter_prepared s u to note said = record {
 abbrev pub counting : Prepared → ClaimerChange Value → Prepared
 counting p change = record p { change = Counts change }
 
--- the step of a majority of votes
+-- the step after a majority of votes: notes that the build is held, and sends it to all others
 abbrev pub held_prepared : State → ℕ → Value → Value → ClaimerChange Value → Prepared
 held_prepared s u noted sent change = record {
   note = Some (on_unit s u (facts.Held noted));

@@ -8,7 +8,7 @@ use Rattle.package_record.specs.Content.{Content, record_text}
 abbrev pub digest_of : Content → List ℕ
 digest_of r = sha256 (record_text r)
 
--- there is a digest or none for each of the records, and each digest is its record's
+-- There is one optional digest for each record, and each digest present is that of its record.
 pub record AreDigests (digests : List (Option (List ℕ))) (records : List Content) : Type 0 where
   pub each : length digests ≡ length records
   pub right : (place : ℕ) (digest : List ℕ) (r : Content) (other : Option (List ℕ))

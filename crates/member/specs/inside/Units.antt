@@ -14,10 +14,10 @@ is_held_fact (Promised c) = false
 is_held_fact (Voted c v) = false
 is_held_fact (Held v) = true
 
--- the set with these, too
+-- the set with these elements added
 abbrev pub with_all : set.FinSet nat_cmp → List ℕ → set.FinSet nat_cmp
 with_all s ps = fold (λ t p. set.insert t p) s ps
 
--- the engine once these are agreed, too
+-- the engine after these packages are agreed
 abbrev pub agreed_too : engine.State → List ℕ → engine.State
 agreed_too e ps = record e { agreed = with_all e.agreed ps }

@@ -6,17 +6,17 @@ use Rattle.claims.specs.Job.{Task}
 use Rattle.protocol.specs.State.{Gathering, Building, Voting, OpenClaim, Progress, State}
 use Rattle.protocol.specs.Step.{job_again, unit_in}
 
--- the job of the open claim, where it is for the unit and waits for a build
+-- the job of the open claim, if the claim is for the unit and waits for a build
 abbrev pub job_at : State → ℕ → Option Task
 job_at s u =
     option_and_then (λ o. if u == o.unit then job_again s o o.progress else None) s.claim
 
--- the unit that the path names with its job, where the open claim waits for its build
+-- the unit that the path names and its job, if the open claim is for it and waits for a build
 abbrev pub waiting_for : State → Text → Option (ℕ × Task)
 waiting_for s path =
     option_and_then (λ u. option_map (λ job. (u, job)) (job_at s u)) (unit_in s path)
 
--- ---- whether a claim is open that waits, and for which unit
+-- ---- whether a claim is open that waits for a build, and for which unit
 
 -- Whether the claim waits for a build.
 abbrev pub is_building_at : Progress → Bool
@@ -24,7 +24,7 @@ is_building_at (Gathering c joined k) = false
 is_building_at (Building c) = true
 is_building_at (Voting b joined) = false
 
--- Whether a claim is open that does.
+-- Whether a claim is open that waits for a build.
 abbrev pub waits : Option OpenClaim → Bool
 waits None = false
 waits (Some o) = is_building_at o.progress

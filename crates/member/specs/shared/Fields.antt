@@ -1,8 +1,8 @@
--- What a contract sees of a member's fields.
+-- How contracts see a member's fields.
 use Rattle.std.specs.Prelude.{◌≡◌, List, [], Option, None, map, option_and_then, option_map}
 use Rattle.std.specs.Option.{ForSome}
-use Rattle.agreement.specs.Member.{Facts}
-use Rattle.agreement.specs.Votes.{report_of}
+use Rattle.claims.specs.Member.{Facts}
+use Rattle.claims.specs.Votes.{report_of}
 use Rattle.claims.specs.Job.{Task}
 use Rattle.engine.specs.State as engine
 use Rattle.engine.specs.Division.{Division}
@@ -14,7 +14,7 @@ use Rattle.member.specs.OpenClaims.{IsWeighedBy, open_of}
 use Rattle.member.specs.declared.known.Known.{Known}
 use Rattle.member.specs.declared.member.Member.TheInside.{Inside}
 
--- what is known of a unit
+-- what the member knows of a unit
 abbrev pub facts_of_known : Known → Facts Value
 facts_of_known k = record {
   opened = k.opened;
@@ -23,7 +23,7 @@ facts_of_known k = record {
   held = k.held;
 }
 
--- what the member with these fields is
+-- the state of the member with these fields
 abbrev pub state_of : Inside → State
 state_of m = record {
   division = m.units;
@@ -37,8 +37,8 @@ state_of m = record {
 abbrev pub job_in : State → Option Task
 job_in s = option_and_then (λ o. job_again s o o.progress) s.claim
 
--- The engine has just what is held, the claim weighs members as the member does, the job at hand is
--- that of the claim, and the digest that of the tree.
+-- The engine has exactly what is held as agreed, the open claim has the member's weights, the
+-- stored job is that of the open claim, and the stored digest is that of the tree.
 pub record IsKept (m : Inside) : Type 0 where
   pub member : IsMember (state_of m)
   pub tree : m.tree.now ≡ m.units.tree
@@ -47,7 +47,7 @@ pub record IsKept (m : Inside) : Type 0 where
   pub weighed : ForSome m.claim (λ o. IsWeighedBy m.weights o.claimer)
   pub job : m.job ≡ job_in (state_of m)
 
--- the engine of what is held, by these facts
+-- the engine in which exactly the units that these facts hold are agreed
 abbrev pub engine_with : Division → List (Facts Value) → engine.State
 engine_with d facts =
     engine_of (record { division = d; weights = []; me = 0; facts = facts; claim = None })

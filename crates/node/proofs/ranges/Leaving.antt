@@ -1,10 +1,10 @@
--- What a step leaves is a node.
+-- A step leaves a valid node.
 use Rattle.std.proofs.Common.{◌≡◌, ℕ, All, List, [], ◌∷◌, Option, None, Some, Ok, refl, sym, subst, ap, ◌∙◌}
 use Rattle.std.specs.List.{slice_index_or}
 use Rattle.std.specs.Option.{ForSome}
 use Rattle.std.proofs.lemmas.List.Sums.{fold_push}
 use Rattle.std.proofs.lemmas.List.Elements.{All-append, All-cons, All-nil}
-use Rattle.agreement.specs.Member.{Facts, no_facts}
+use Rattle.claims.specs.Member.{Facts, no_facts}
 use Rattle.ballots.specs.declared.message.Note.{Note}
 use Rattle.engine.specs.declared.Letter.{Letter}
 use Rattle.engine.specs.Division.{number_named}
@@ -22,7 +22,7 @@ use Rattle.node.specs.inside.Stepping.{AreKept}
 use Rattle.node.proofs.ranges.Restored.{restored_written}
 use Rattle.node.proofs.ranges.Written.{answers_written}
 
--- all that a node knows can be written down
+-- all that a node knows can be encoded
 pub node_in_range : (n : NodeState) → IsNode n → IsInRange n.member
 node_in_range n is =
     let s = n.member in
@@ -38,12 +38,12 @@ facts_after s notes None same = same
 facts_after s notes (Some n) same =
     ap (λ (fs : List (Facts Value)). facts_then s.division fs (Some n)) same ∙ sym (fold_push (λ fs x. facts_then s.division fs (Some x)) (fresh s.division s.weights s.me).facts notes n)
 
--- the notes with one more
+-- the notes with one added
 with_all : (P : Note Value → Type 0) (notes : List (Note Value)) (note : Option (Note Value)) → All P notes → ForSome note P → All P (with_note notes note)
 with_all P notes None all one = all
 with_all P notes (Some n) all one = All-append P notes (n ∷ []) all (All-cons P n [] (one n refl) (All-nil P))
 
--- what is left by the answer to such an input is a node
+-- the answer to such an input leaves a valid node
 pub leaves_node : (n : NodeState) (letter : Letter) (input : Input) (a : Answer) (pieces : List Piece) → IsNode n → IsMember (member_after n.member a) → IsGoodInput input
     → answer n.member letter input ≡ Ok a → AreKept n.member pieces → IsNode (after n (record { answer = a; pieces = pieces }))
 leaves_node n letter input a pieces is stays good e kept =
@@ -60,7 +60,7 @@ leaves_node n letter input a pieces is stays good e kept =
       let_through = kept.let_through;
     }
 
--- other pieces leave a node that is one
+-- a node with other pieces is a valid node
 pub other_pieces : (n : NodeState) (pieces : List Piece) → IsNode n → AreKept n.member pieces → IsNode (record n { pieces = pieces })
 other_pieces n pieces is kept = record {
   member = is.member;

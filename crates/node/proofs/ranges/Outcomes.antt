@@ -1,29 +1,29 @@
--- What the theory's member does with what can be written down can be written down.
+-- The outcome of the abstract member can be encoded if its inputs can.
 use Rattle.std.proofs.Common.{◌≡◌, ℕ, Bool, not, ◌&&◌, All, List, [], ◌∷◌, Option, Some, None, arith, refl, subst, ap, if◌then◌else◌}
 use Rattle.std.specs.Prelude.{unwrap_or}
 use Rattle.std.specs.Option.{ForSome}
 use Rattle.std.proofs.lemmas.Bool.{cond_both}
 use Rattle.std.proofs.lemmas.List.Elements.{All-head, All-tail}
 use Rattle.faults.specs.Bytes.{Text}
-use Rattle.agreement.specs.Votes.{Ballot, ballot, kept_report}
-use Rattle.agreement.specs.Quorums.{Quorums, with_member, nobody}
-use Rattle.agreement.specs.Claims.{claim_same, is_above, is_below, is_promised}
-use Rattle.agreement.specs.Votes.{is_voted, PromiseOf}
-use Rattle.agreement.specs.Member as members
-use Rattle.agreement.specs.Member.{Facts, facts_of, first, greater, no_facts, noted}
-use Rattle.agreement.specs.Messages as messages
-use Rattle.agreement.specs.Step.{Outcome, notes, notes_and_says, on_agreed, on_ask, on_message, on_offer, on_promise, on_propose, on_quorum, on_vote, says, still}
-use Rattle.agreement.specs.declared.claim.Claim.{Claim}
+use Rattle.claims.specs.Votes.{Ballot, ballot, kept_report}
+use Rattle.claims.specs.Quorums.{Quorums, with_member, nobody}
+use Rattle.claims.specs.Claims.{claim_same, is_above, is_below, is_promised}
+use Rattle.claims.specs.Votes.{is_voted, PromiseOf}
+use Rattle.claims.specs.Member as members
+use Rattle.claims.specs.Member.{Facts, facts_of, first, greater, no_facts, noted}
+use Rattle.claims.specs.Messages as messages
+use Rattle.claims.specs.Step.{Outcome, notes, notes_and_says, on_agreed, on_ask, on_message, on_offer, on_promise, on_propose, on_quorum, on_vote, says, still}
+use Rattle.claims.specs.declared.claim.Claim.{Claim}
 use Rattle.claims.specs.Claim.{IsClaim}
 use Rattle.protocol.specs.State.{Value}
 use Rattle.wire.specs.Messages.{IsBuildOf}
 use Rattle.node.specs.Ranges.{AreFactsOf, IsOutcomeOf, IsSayable, IsStageOf, IsTold, IsVoteFor}
 
--- what holds of the value holds if it is there
+-- a property of the value holds of it as an option
 pub for_this : {X : Type 0} (P : X → Type 0) (x : X) → P x → ForSome (Some x) P
 for_this P x holds y e = subst P (ap (λ o. unwrap_or o x) e) holds
 
--- of nothing all holds
+-- and of no value
 pub for_none : {X : Type 0} (P : X → Type 0) → ForSome None P
 for_none P y e = absurd (let no : None ≡ Some y = e in cc)
 
@@ -36,7 +36,7 @@ first_held : (name : Text) (h : Option Value) (v : Value) → ForSome h (IsBuild
 first_held name None v is is_v = for_this (IsBuildOf name) v is_v
 first_held name (Some u) v is is_v = is
 
--- a note that can be written down leaves such facts
+-- facts after a note that can be encoded can be encoded
 pub noted_facts : (name : Text) (f : Facts Value) (n : members.Note Value) → AreFactsOf name f → IsTold name n → AreFactsOf name (noted f n)
 noted_facts name f (members.Opened round) are is =
     let before = are.opened in
@@ -49,14 +49,14 @@ noted_facts name f (members.Voted b) are is =
 noted_facts name f (members.Held v) are is =
     record { opened = are.opened; promised = are.promised; voted = are.voted; held = first_held name f.held v are.held is }
 
--- so do all notes together
+-- so can the facts after all notes
 pub restored_facts : (name : Text) (ns : List (members.Note Value)) → All (IsTold name) ns → AreFactsOf name (members.restored ns)
 restored_facts name [] are = record { opened = omega arith; promised = for_none IsClaim; voted = for_none (IsVoteFor name); held = for_none (IsBuildOf name) }
 restored_facts name (n ∷ ns) are = noted_facts name (members.restored ns) n (restored_facts name ns (All-tail (IsTold name) n ns are)) (All-head (IsTold name) n ns are)
 
 -- ---- outcomes
 
--- nothing is noted or said
+-- nothing is noted or sent
 pub still_of : (name : Text) (x : members.Member Value) → IsStageOf name x.stage → IsOutcomeOf name (still x)
 still_of name x is = record { note = for_none (IsTold name); send = for_none (IsSayable name); stage = is }
 
@@ -70,7 +70,7 @@ pub notes_and_says_of : (name : Text) (x : members.Member Value) (n : members.No
     → IsStageOf name x.stage → IsTold name n → IsSayable name y → IsOutcomeOf name (notes_and_says x n y)
 notes_and_says_of name x n y is told sayable = record { note = for_this (IsTold name) n told; send = for_this (IsSayable name) y sayable; stage = is }
 
--- either outcome
+-- one of two outcomes
 either : (name : Text) (b : Bool) (o p : Outcome Value) → IsOutcomeOf name o → IsOutcomeOf name p → IsOutcomeOf name (if b then o else p)
 either name b o p is_o is_p = cond_both b o p (IsOutcomeOf name) (λ yes. is_o) (λ no. is_p)
 
@@ -139,7 +139,7 @@ ask_of : (name : Text) (x : members.Member Value) (h : Option Value) → IsStage
 ask_of name x None is is_h = still_of name x is
 ask_of name x (Some v) is is_h = says_of name x (messages.Agreed v) is (is_h v refl)
 
--- a message that comes
+-- a received message
 pub message_of : (name : Text) (enough : Quorums) (i : ℕ) (x : members.Member Value) (y : messages.Message Value)
     → AreFactsOf name (facts_of x) → IsStageOf name x.stage → IsSayable name y → IsOutcomeOf name (on_message enough i x y)
 message_of name enough i x (messages.Offer c) are is is_y = offer_of name i x c are is is_y

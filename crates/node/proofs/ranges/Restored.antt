@@ -1,4 +1,4 @@
--- What notes that can be written down restore can be written down.
+-- Facts that are restored from notes that can be encoded can be encoded.
 use Rattle.std.proofs.Common.{All, List, [], ◌∷◌, filter, map, sym, subst}
 use Rattle.std.specs.Prelude.{reverse}
 use Rattle.std.specs.Str.{bytes_eq}
@@ -6,7 +6,7 @@ use Rattle.std.proofs.lemmas.Bool.{cond_both}
 use Rattle.std.proofs.lemmas.List.{reverse-append}
 use Rattle.std.proofs.lemmas.List.Elements.{All-append, All-cons, All-head, All-nil, All-tail}
 use Rattle.faults.specs.Bytes.{Text}
-use Rattle.agreement.specs.Member as members
+use Rattle.claims.specs.Member as members
 use Rattle.ballots.specs.InTheAgreement.{note_of}
 use Rattle.ballots.specs.declared.message.Fact.{Fact}
 use Rattle.ballots.specs.declared.message.Fact.TheVariants as facts
@@ -31,11 +31,11 @@ told_of name (facts.Promised c) is = is
 told_of name (facts.Voted c v) is = is
 told_of name (facts.Held v) is = is
 
--- what a note tells in the theory
+-- the abstract note of a note
 abbrev told : Note Value → members.Note Value
 told n = note_of n.fact
 
--- the notes on a unit
+-- the notes about a unit
 abbrev on_unit : Text → List (Note Value) → List (Note Value)
 on_unit name notes = filter (λ n. bytes_eq n.path name) notes
 

@@ -1,4 +1,4 @@
--- Each answer of a member can be written down.
+-- Each answer of a member can be encoded.
 use Rattle.std.proofs.Common.{◌≡◌, ◌==◌, ◌&&◌, ◌<◌, ◌≤◌, ℕ, Bool, true, false, not, nat_le, nat_lt, All, List, [], ◌∷◌, Option, Some, None, Result, Ok, Err, arith, suc, eqb-true, refl, sym, subst, ap, length, option_map, max, leb-true, leb-false, ltb-true, if◌then◌else◌}
 use Rattle.std.specs.Prelude.{IfSome}
 use Rattle.std.specs.List.{list_all}
@@ -9,14 +9,14 @@ use Rattle.std.proofs.lemmas.List.Elements.{All-map, All-nil}
 use Rattle.sha2.proofs.Facts256.{length-sha256}
 use Rattle.faults.specs.Answers.{first_that_applies, option_or}
 use Rattle.faults.specs.Bytes.{Text}
-use Rattle.agreement.specs.Quorums.{is_majority, nobody}
-use Rattle.agreement.specs.Votes.{Ballot, ballot}
-use Rattle.agreement.specs.Member as members
-use Rattle.agreement.specs.Member.{facts_of}
-use Rattle.agreement.specs.Messages as messages
-use Rattle.agreement.specs.Nodes as nodes
-use Rattle.agreement.specs.Step.{Outcome, on_built, on_failed, on_inquire, on_nudge, on_start}
-use Rattle.agreement.specs.declared.claim.Claim.{Claim}
+use Rattle.claims.specs.Quorums.{is_majority, nobody}
+use Rattle.claims.specs.Votes.{Ballot, ballot}
+use Rattle.claims.specs.Member as members
+use Rattle.claims.specs.Member.{facts_of}
+use Rattle.claims.specs.Messages as messages
+use Rattle.claims.specs.Nodes as nodes
+use Rattle.claims.specs.Step.{Outcome, on_built, on_failed, on_inquire, on_nudge, on_start}
+use Rattle.claims.specs.declared.claim.Claim.{Claim}
 use Rattle.claims.specs.Claim.{IsClaim, IsRound, greatest_round, most_members}
 use Rattle.engine.specs.declared.Letter.{Letter}
 use Rattle.package_record.specs.Build.{IsBuild}
@@ -50,7 +50,7 @@ use Rattle.node.specs.Ranges.{AnswersCanBeWritten, AreFactsOf, CanBeWritten, IsC
 use Rattle.node.proofs.ranges.Outcomes as outcomes
 use Rattle.node.proofs.ranges.Outcomes.{for_none, for_this, notes_and_says_of, says_of, still_of}
 
--- ---- what the member knows of a unit, and how far its claim is
+-- ---- what the member knows of a unit, and the progress of its claim
 
 facts_in : (s : State) (u : ℕ) → IsInRange s → u < length s.division.units → AreFactsOf (name_at s u) (facts_of (view s u))
 facts_in s u is lt = let are = is.facts u lt in record { opened = are.opened; promised = are.promised; voted = are.voted; held = are.held }
@@ -71,7 +71,7 @@ stage_by s u (Some o) is are =
 stage_in : (s : State) (u : ℕ) → IsMember s → IsInRange s → IsStageOf (name_at s u) (view s u).stage
 stage_in s u is are = stage_by s u s.claim is.claim are.claim
 
--- ---- an answer that is made of such an outcome
+-- ---- an answer made of such an outcome
 
 few_members : (s : State) → IsMember s → length s.weights ≤ most_members
 few_members s is =
@@ -237,7 +237,7 @@ nudge_is_written s (Some o) a is are at e =
     (nudge_of (name_at s o.unit) (view s o.unit) (view s o.unit).stage stage stage) given.1 in
     subst (CanBeWritten s) given.2 (record { note = plain.note; named = plain.named; sends = plain.sends; claim = plain.claim })
 
--- ---- a message that comes
+-- ---- a received message
 
 claim_is_one : (n : ℕ) (c : Claim) → IsRound c.round → n ≤ most_members → nat_lt c.member n ≡ true → IsClaim c
 claim_is_one n c round few lt = let below = ltb-true c.member n lt in record { round = round; member = omega (arith, below, few) }

@@ -1,4 +1,4 @@
--- What the functions have done that make a node's step ready, and that write its note.
+-- What the functions have done that make a node's step ready and write its note.
 use Rattle.std.specs.Prelude.{◌≡◌, ◌+◌, ◌++◌, ℕ, All, AllPairs, false, List, [], ◌∷◌, Option, None, Some, Result, Ok, Err, IfOk, Bool, true, length}
 use Rattle.std.specs.Option.{ForSome}
 use Rattle.engine.specs.declared.Letter.{Letter}
@@ -32,15 +32,15 @@ use Rattle.node.specs.Step.{ReadyStep, Taken, after, answer_then, pieces_left, s
 use Rattle.node.specs.declared.fault.Foreign.TheVariants as foreign
 use Rattle.node.specs.declared.fault.NodeFault.{NodeFault}
 use Rattle.node.specs.declared.fault.NodeFault.TheVariants as fault
-use Rattle.node.specs.declared.ready.Change.{Change}
+use Rattle.node.specs.declared.prepared_step.Change.{Change}
 
--- These are pieces, none is there twice, and the member lets their headers through.
+-- These are pieces, none occurs twice, and the member accepts their headers.
 pub record AreKept (s : State) (pieces : List Piece) : Type 0 where
   pub each : All IsPiece pieces
   pub once : AllPairs (λ p q. is_numbered q.header q.number p ≡ false) pieces
   pub let_through : AreLetThrough s pieces
 
--- what a node answers to an input that its member refuses
+-- the node's refusal of an input that its member refuses
 abbrev pub refused_by : Refusal → NodeFault
 refused_by refusals.Memory = fault.Memory
 refused_by refusals.Unlisted = fault.Refused refusals.Unlisted
@@ -54,7 +54,7 @@ refused_by refusals.OtherTree = fault.Refused refusals.OtherTree
 refused_by refusals.NotAMember = fault.Refused refusals.NotAMember
 refused_by refusals.OtherPackages = fault.Refused refusals.OtherPackages
 
--- what a node answers to a message that its member refuses
+-- the node's refusal of a message that its member refuses
 abbrev pub foreign_by : Refusal → NodeFault
 foreign_by refusals.Memory = fault.Memory
 foreign_by refusals.Unlisted = fault.Foreign (foreign.Message refusals.Unlisted)
@@ -68,7 +68,7 @@ foreign_by refusals.OtherTree = fault.Foreign (foreign.Message refusals.OtherTre
 foreign_by refusals.NotAMember = fault.Foreign (foreign.Message refusals.NotAMember)
 foreign_by refusals.OtherPackages = fault.Foreign (foreign.Message refusals.OtherPackages)
 
--- what a node answers to bytes, or pieces, that mean nothing
+-- the node's refusal of bytes, or of pieces, that mean nothing
 abbrev pub strange_by : WireFault → NodeFault
 strange_by wire.Memory = fault.Memory
 strange_by wire.TooLong = fault.Foreign (foreign.Bytes wire.TooLong)
@@ -78,7 +78,7 @@ strange_by wire.Kind = fault.Foreign (foreign.Bytes wire.Kind)
 strange_by wire.BadField = fault.Foreign (foreign.Bytes wire.BadField)
 strange_by wire.Trailing = fault.Foreign (foreign.Bytes wire.Trailing)
 
--- the node once the pieces with the header made no message
+-- the node after the pieces with the header didn't join to a message
 abbrev pub dropped_by : NodeState → Header → WireFault → NodeState
 dropped_by n h wire.Memory = n
 dropped_by n h wire.TooLong = record n { pieces = without h n.pieces }
@@ -88,13 +88,13 @@ dropped_by n h wire.Kind = record n { pieces = without h n.pieces }
 dropped_by n h wire.BadField = record n { pieces = without h n.pieces }
 dropped_by n h wire.Trailing = record n { pieces = without h n.pieces }
 
--- A step that was made ready may be taken, and leaves a node.
+-- A ready step may be taken, and the result is again a valid node.
 pub record IsSafe (n : NodeState) (r : ReadyStep) : Type 0 where
   pub may : ForSome r.step (MayBeTaken n.member)
   pub leaves : IsNode (after n (taken_by n r))
 
--- The member's step on the input was made ready, with this change of the pieces, or it is refused
--- as the member refuses it, unless memory ran out.
+-- The result is the member's step on the input, ready, with this change of the pieces, or the
+-- member's refusal, or `Memory`.
 pub record IsPrepared (n : NodeState) (input : Input) (change : Change)
     (result : Result ReadyStep Refusal) : Type 0 where
   pub letter : Letter
@@ -104,13 +104,13 @@ pub record IsPrepared (n : NodeState) (input : Input) (change : Change)
   pub changes : IfOk result (λ r. r.change ≡ change)
   pub safe : IfOk result (IsSafe n)
 
--- The step that is right was made ready, or it is refused as is right, unless memory ran out.
+-- The result is the right step, ready, or the right refusal, or `Memory`.
 pub record MakesReady (n : NodeState) (right : Result Taken NodeFault)
     (result : Result ReadyStep NodeFault) : Type 0 where
   pub given : IsRightUnless fault.Memory (map_ok (taken_by n) result) right
   pub safe : IfOk result (IsSafe n)
 
--- the node once what bytes are to it was tested, and this was answered
+-- the node after it handled received bytes with this meaning, and returned this
 abbrev pub left_at : NodeState → Arrival → Result ReadyStep NodeFault → NodeState
 left_at n a (Ok r) = n
 left_at n a (Err fault.Memory) = n
@@ -119,21 +119,21 @@ left_at n a (Err (fault.Log f)) = n
 left_at n a (Err fault.Stopped) = n
 left_at n a (Err (fault.Foreign f)) = record n { pieces = pieces_left n.pieces a }
 
--- The step on bytes that are this to the node was made ready, or refused, and the node is as it was
--- but for the pieces of a message that is none.
+-- The step on received bytes with this meaning is ready or refused. The node is unchanged, except
+-- that pieces which don't join to a message are dropped.
 pub record ComesAs (old new : NodeState) (a : Arrival) (result : Result ReadyStep NodeFault)
     : Type 0 where
   pub ready : MakesReady old (step_on old.member a) result
   pub state : new ≡ left_at old a result
 
--- the member once its part of a step was taken, if it has one
+-- the member after its part of a step is taken, if it has one
 abbrev pub committed : State → Option Prepared → State
 committed s None = s
 committed s (Some p) = member_after s (answer_by s p)
 
 -- ---- the note
 
--- A fault of the device, and no other, stops a node.
+-- Only a fault of the device stops a node.
 abbrev pub is_device : LogFault → Bool
 is_device log.Memory = false
 is_device log.Device = true
@@ -142,23 +142,23 @@ is_device log.MustReopen = false
 is_device log.NotALog = false
 is_device log.OtherCluster = false
 
--- the texts with one more, if there is one
+-- the texts with this one added, if there is one
 abbrev pub with_text : List Text → Option Text → List Text
 with_text texts None = texts
 with_text texts (Some text) = texts ++ text ∷ []
 
--- so many bytes such a text takes on a log, if there is one
+-- the number of bytes that this text takes on a log, if there is one
 abbrev pub entry_len : Option Text → ℕ
 entry_len None = 0
 entry_len (Some text) = 5 + length text
 
--- At each moment a crash leaves these notes, with this one or without; and without a note there are
--- no calls.
+-- At each moment a crash leaves these notes, either with or without this one. Without a note the
+-- disk isn't called.
 abbrev pub GoesOnWith : Identity → List Text → Option Text → History → History → Type 0
 GoesOnWith i texts None old new = new ≡ old
 GoesOnWith i texts (Some text) old new = AllAlong (HasBeforeOrAfter i texts text) old new
 
--- With this note the file would have more bytes than it may.
+-- With this note the file would exceed its maximum length.
 abbrev pub LacksRoomFor : {D : Type 0} → Log D → Option Text → Type 0
 LacksRoomFor l None = ⊥
 LacksRoomFor l (Some text) = WouldPassLimit l text

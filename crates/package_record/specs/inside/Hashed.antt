@@ -1,4 +1,4 @@
--- Digests of files that are kept.
+-- Digests that are kept with files.
 use Rattle.std.specs.Prelude.{ℕ, List, [], map}
 use Rattle.std.specs.List.{slice_index_or}
 use Rattle.sha2.specs.Sha256.{sha256}

@@ -1,16 +1,16 @@
--- Whether records say the same.
+-- Whether records have equal contents.
 use Rattle.std.specs.Prelude.{Bool, ◌&&◌, ◌==◌}
 use Rattle.std.specs.Cmp.Lexicographic.{pointwise}
 use Rattle.std.specs.Str.{bytes_eq}
-use Rattle.agreement.specs.Claims.{claim_same}
+use Rattle.claims.specs.Claims.{claim_same}
 use Rattle.package_record.specs.BuildReading.{is_same_dep}
 use Rattle.package_record.specs.Content.{Content, NamedFile}
 
--- the files have one name and the same bytes
+-- whether the files have equal names and bytes
 abbrev pub is_same_file : NamedFile → NamedFile → Bool
 is_same_file f g = bytes_eq f.name g.name && bytes_eq f.bytes g.bytes
 
--- the packages, and what they need
+-- whether the records have equal contents
 abbrev pub is_same_content : Content → Content → Bool
 is_same_content c d =
     bytes_eq c.path d.path

@@ -1,8 +1,8 @@
--- What a contract doesn't see of a seal.
+-- The invariant of a seal.
 use Rattle.std.specs.Prelude.{◌≡◌}
-use Rattle.hmac.specs.Hmac.{block_of}
+use Rattle.seals.specs.Hmac.{block_of}
 use Rattle.seals.specs.declared.seal.Seal.TheInside.{Inside}
 
--- The key under which texts are sealed is that of the run.
+-- Texts are sealed with the run's key.
 abbrev pub IsOfRun : Inside → Type 0
 IsOfRun seal = seal.key ≡ block_of seal.run_key

@@ -1,4 +1,4 @@
--- A code for pasts, by which a proof tells them apart: a record keeps one, for clauses alone.
+-- A coding of pasts. Proofs compare pasts by it, and a record keeps one that only contracts read.
 use Rattle.std.specs.Prelude.{◌≡◌, ◌⊎◌, ℕ, ◌+◌, ◌≤◌, max, Bool, List, [], ◌∷◌, ◌++◌, length, take, drop, refl}
 use Rattle.std.specs.Coded.{Coded, Coded-set, coded_ℕ, coded_bool, coded_list, coded×, coded⊎, prop_coded, code_by, ×_prop, Π_prop, le_prop}
 use Rattle.std.proofs.Common.{inl, inr}
@@ -8,7 +8,7 @@ use Rattle.stable_record.specs.Crash.{CutOrNot, IsFile, MayLeave, Torn, range_en
 use Rattle.stable_record.specs.Events.{Past}
 use Rattle.stable_record.specs.History.{Call, History, IsBytes, cut_to, found, seen, stands, synced, written}
 
--- a file
+-- the coding of files
 abbrev file_code : Coded (List ℕ)
 file_code = coded_list coded_ℕ
 
@@ -18,7 +18,7 @@ same_prop a b = Coded-set file_code a b
 abbrev bytes_prop : (file : List ℕ) → IsProp (IsBytes file)
 bytes_prop file = Π_prop (λ k. le_prop)
 
--- a call
+-- the coding of calls
 abbrev Cases : Type 0
 Cases = List ℕ ⊎ (List ℕ ⊎ ((ℕ × (ℕ × List ℕ)) ⊎ ((ℕ × List ℕ) ⊎ Unit {0})))
 
@@ -51,7 +51,7 @@ cases_code =
 abbrev calls_code : Coded History
 calls_code = coded_list (code_by Cases cases_code cases_of call_of call_of-cases_of)
 
--- what a torn write left
+-- the coding of what a torn write left
 abbrev TornBy : ℕ → ℕ → List ℕ → List ℕ → List ℕ → Type 0
 TornBy at count old new middle =
     (new ≡ take at old ++ middle ++ drop (at + count) old)
@@ -78,14 +78,14 @@ abbrev cut_code : (len : ℕ) (old new : List ℕ) → Coded (CutOrNot len old n
 cut_code len old new =
     coded⊎ (prop_coded (same_prop new old)) (prop_coded (same_prop new (take len old)))
 
--- a file with two things that are so of it
+-- the coding of a file with two proofs about it
 abbrev three_code : (P Q : List ℕ → Type 0) → ((d : List ℕ) → Coded (P d))
     → ((d : List ℕ) → Coded (Q d)) → Coded ((d : List ℕ) × P d × Q d)
 three_code P Q p q =
     code_by ((d : List ℕ) × (P d × Q d)) (also_coded file_code (λ d. coded× (p d) (q d)))
     (λ t. (t.0, (t.1, t.2))) (λ t. (t.0, t.1.0, t.1.1)) (λ _. refl)
 
--- what a crash may leave
+-- the coding of proofs that a crash may leave a file
 abbrev left_code : (h : History) (c : List ℕ) → Coded (MayLeave h c)
 left_code [] c = prop_coded (same_prop c [])
 left_code (stands file ∷ h) c = prop_coded (×_prop (same_prop c file) (bytes_prop c))
@@ -96,7 +96,7 @@ left_code (cut_to len file ∷ h) c =
     three_code (MayLeave h) (λ d. CutOrNot len d c) (left_code h) (λ d. cut_code len d c)
 left_code (synced ∷ h) c = prop_coded (×_prop (same_prop c (seen h)) (bytes_prop c))
 
--- a past
+-- the coding of pasts
 abbrev pub past_code : Coded Past
 past_code =
     code_by ((calls : History) × (MayLeave calls (seen calls) × (List (List ℕ) × List Bool)))

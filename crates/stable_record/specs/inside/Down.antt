@@ -5,8 +5,8 @@ use Rattle.stable_record.specs.declared.disk_fault.DiskFault.TheVariants.{Memory
 use Rattle.stable_record.specs.History.{History, written, cut_to, synced, seen, overwritten}
 use Rattle.stable_record.specs.Room.{Room}
 
--- A write, and then a sync. On Ok both were done. Else neither was, or the write alone, of which a
--- read gives anything.
+-- A write followed by a sync. On `Ok` both were done. Otherwise neither was, or only the write, and
+-- then this says nothing about what a read returns.
 pub record WritesDown {T : Type 0} (at : ℕ) (bytes : List ℕ) (old new : History)
     (result : Result T DiskFault) : Type 0 where
   pub done : OnOk result
@@ -14,15 +14,15 @@ pub record WritesDown {T : Type 0} (at : ℕ) (bytes : List ℕ) (old new : Hist
   pub failed : OnErr result
       ((new ≡ old) ⊎ ((after : List ℕ) × (new ≡ written at (length bytes) after ∷ old)))
 
--- A cut, and then a sync. On Ok both were done. Else neither was, or the cut alone, of which a read
--- gives anything.
+-- A cut followed by a sync. On `Ok` both were done. Otherwise neither was, or only the cut, and
+-- then this says nothing about what a read returns.
 pub record CutsDown {T : Type 0} (len : ℕ) (old new : History) (result : Result T DiskFault)
     : Type 0 where
   pub done : OnOk result (new ≡ synced ∷ cut_to len (take len (seen old)) ∷ old)
   pub failed : OnErr result ((new ≡ old) ⊎ ((after : List ℕ) × (new ≡ cut_to len after ∷ old)))
 
--- memory was wanting only where the disk had not room for so many calls and bytes, and no more than
--- that was used up
+-- The calls run out of memory only if the disk doesn't have room for this number of calls and
+-- bytes, and they use no more room than that.
 pub record UsesRoomFor {T : Type 0} (bytes calls : ℕ) (old new : Room) (result : Result T DiskFault)
     : Type 0 where
   pub enough : bytes ≤ old.bytes → calls ≤ old.calls → ¬ (IsErrOf result Memory)

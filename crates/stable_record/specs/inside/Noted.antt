@@ -1,13 +1,13 @@
--- How calls are noted down.
+-- How calls are recorded.
 use Rattle.std.specs.Prelude.{ℕ, ◌==◌, if◌then◌else◌, List, drop, slice_index}
 use Rattle.stable_record.specs.Events.{Event, Past, holds, writes, cuts, syncs, reads, measures, fails_to_write, fails_to_cut, replay}
 use Rattle.stable_record.specs.History.{IsBytes, seen}
 
--- at each moment so far a read gives a file of bytes
+-- At every point so far a read returned a list of bytes.
 abbrev pub WereBytes : Past → List Event → Type 0
 WereBytes past events = (later : ℕ) → IsBytes (seen (replay past (drop later events)))
 
--- the event that these numbers and bytes note down
+-- the event recorded by these numbers and bytes
 abbrev pub event_of : List ℕ → List ℕ → Event
 event_of numbers bytes =
     let kind = slice_index numbers 0 in

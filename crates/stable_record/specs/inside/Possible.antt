@@ -1,6 +1,6 @@
--- What a read gives of a file whose calls were noted is one of the things that a crash may leave.
--- These proofs stand among the definitions because a law of a trait can cite no others of its
--- crate.
+-- What a read returns from a file whose calls were recorded is one of the files that a crash may
+-- leave. These proofs are among the definitions because a law of a trait cannot cite any others of
+-- its crate.
 use Rattle.std.specs.Prelude.{◌≡◌, ℕ, zero, suc, ◌+◌, ◌-◌, max, nat_le, nat_lt, Bool, true, false, ◌&&◌, if◌then◌else◌, List, [], ◌∷◌, ◌++◌, length, take, drop, get_or, replicate, refl}
 use Rattle.std.specs.List.{list_all}
 use Rattle.std.proofs.Common.{inl, inr, sym, ◌∙◌, ap, arith, append_assoc, length-append, length-take, length-drop}
@@ -11,7 +11,7 @@ use Rattle.stable_record.specs.Crash.{CutOrNot, MayLeave, Torn, range_end}
 use Rattle.stable_record.specs.Events.{Event, Past, replay, can_be_left, half_written, half_cut, holds, writes, cuts, syncs, reads, measures, fails_to_write, fails_to_cut}
 use Rattle.stable_record.specs.inside.Noted.{WereBytes}
 
--- a write that did nothing is among those that were torn
+-- a write that did nothing is a torn write
 pub unchanged : (at count : ℕ) (f : List ℕ) → IsBytes f → Torn at count f f
 unchanged at count f are = record {
   middle = take count (drop at f);
@@ -26,7 +26,7 @@ unchanged at count f are = record {
   are_bytes = are;
 }
 
--- and so is one that was done
+-- a write that was done completely is a torn write
 pub overwritten_is_torn : (at : ℕ) (bytes f : List ℕ) → IsBytes (overwritten at bytes f)
     → Torn at (length bytes) f (overwritten at bytes f)
 overwritten_is_torn at [] f are = unchanged at 0 f are
@@ -71,7 +71,7 @@ pub and_right : (a b : Bool) → (a && b) ≡ true → b ≡ true
 and_right true b both = both
 and_right false b both = absurd (let e : false ≡ true = both in cc)
 
--- a file whose elements are tested is one of bytes
+-- a list that passes the test consists of bytes
 all_bytes : (xs : List ℕ) → list_all (λ byte. nat_lt byte 256) xs ≡ true → IsBytes xs
 all_bytes [] all k = omega arith
 all_bytes (x ∷ xs) all zero =
@@ -79,7 +79,7 @@ all_bytes (x ∷ xs) all zero =
 all_bytes (x ∷ xs) all (suc k) =
     all_bytes xs (and_right (nat_lt x 256) (list_all (λ byte. nat_lt byte 256) xs) all) k
 
--- what the past says, or the file as it was
+-- the result is what the past says, or the file unchanged
 torn_or_not : (at count : ℕ) (f middle : List ℕ) → IsBytes f → (b : Bool)
     → can_be_left at count f (take at f ++ middle ++ drop (at + count) f) ≡ b
     → Torn at count f (if b then take at f ++ middle ++ drop (at + count) f else f)
@@ -104,7 +104,7 @@ cut_or_not : (len : ℕ) (f : List ℕ) (b : Bool) → CutOrNot len f (if b then
 cut_or_not len f true = inr refl
 cut_or_not len f false = inl refl
 
--- a write that failed is torn
+-- a write that failed is a torn write
 pub half_written_is_torn : (past : Past) (es : List Event) (at count : ℕ) (f : List ℕ) → IsBytes f
     → Torn at count f (half_written past es at count f)
 half_written_is_torn past es at count f are =
@@ -112,12 +112,12 @@ half_written_is_torn past es at count f are =
     torn_or_not at count f middle are
     (can_be_left at count f (take at f ++ middle ++ drop (at + count) f)) refl
 
--- a cut that failed was done or not
+-- a cut that failed was done or not done
 pub half_cut_is_one : (past : Past) (es : List Event) (len : ℕ) (f : List ℕ)
     → CutOrNot len f (half_cut past es len f)
 half_cut_is_one past es len f = cut_or_not len f (get_or past.done (length es) false)
 
--- what a read gives after these calls is a file that a crash may leave
+-- what a read returns after these calls is a file that a crash may leave
 pub replay_possible : (past : Past) (es : List Event) → WereBytes past es
     → MayLeave (replay past es) (seen (replay past es))
 replay_possible past [] were = past.possible

@@ -1,4 +1,4 @@
--- What is found where a file is read.
+-- What is found when a file is read.
 use Rattle.std.specs.Prelude.{◌≡◌, ◌≢◌, ℕ, ◌<◌, ◌^◌, List, ◌∷◌, ◌++◌, length, Ok, map}
 use Rattle.stable_record.specs.declared.identity.Identity.{Identity}
 use Rattle.stable_record.specs.declared.reading.Opening.{Opening}
@@ -10,7 +10,8 @@ use Rattle.stable_record.specs.History.{History}
 use Rattle.stable_record.specs.Log.{Note, entry, HasNotes, note_of, gate_place, open_gate}
 use Rattle.stable_record.specs.Opening.{IsBlank, IsCutShort, Opens}
 
--- what begins with a gate: the gate is closed, or it breaks off there, or a whole note is behind it
+-- What is found at a gate: the gate is closed, or the file is truncated there, or a whole note
+-- comes after it.
 abbrev pub StandsAt : List ℕ → AtGate → Type 0
 StandsAt file at.Closed =
     (gate : ℕ) × (behind : List ℕ) × (file ≡ gate ∷ behind) × (gate ≢ open_gate)
@@ -23,7 +24,7 @@ OpensTo i file Blank = IsBlank i file
 OpensTo i file (Notes notes end) =
     HasNotes i (map note_of notes.items) file × (end ≡ gate_place i (map note_of notes.items))
 
--- The calls went on from old to new, and at each moment a crash leaves a file that opens with these
+-- The history grew from old to new, and at every point a crash leaves a file that opens with these
 -- notes.
 abbrev pub StaysAs : Identity → List Note → History → History → Type 0
 StaysAs i notes = AllAlong (λ file. Opens i file (Ok notes))

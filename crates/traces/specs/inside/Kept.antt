@@ -1,4 +1,4 @@
--- What is kept of the members of a text's object, of whose events the items are told apart.
+-- What is kept of the members of a text's object. The items of its events are parsed separately.
 use Rattle.std.specs.Prelude.{◌≡◌, ◌<◌, ℕ, List, [], ◌∷◌, Bool, true, false, Option, option_and_then, option_map, None, Some, if◌then◌else◌, codes, length, ⊤}
 use Rattle.std.specs.Str.{bytes_eq}
 use Rattle.json.specs.Json as json
@@ -14,12 +14,12 @@ use Rattle.traces.specs.Trace.{events_from, outer_in}
 use Rattle.traces.specs.declared.listed.Listed.{Listed}
 use Rattle.traces.specs.inside.Listing.{answer, answer_behind}
 
--- an array without its items, if there is one, or else nothing
+-- an empty array if there is an array, or else null
 abbrev pub hollow_of : Option Items → Data
 hollow_of None = null
 hollow_of (Some items) = array no_items
 
--- the value as it is kept: an array without its items, and of any other nothing
+-- what is kept of the events' value: an empty array for an array, and else null
 abbrev pub hollow : Data → Data
 hollow d = hollow_of (as_array d)
 
@@ -36,22 +36,22 @@ kept (member k d ms) = member k (kept_at k d) (kept ms)
 abbrev pub items_of : Members → Option Items
 items_of ms = get_member (codes "events") ms >>= as_array
 
--- these are the events of the items
+-- these are the events of the items, if there are items
 abbrev pub Lists : Option Items → Listed → Type 0
 Lists None listed = ⊤
 Lists (Some items) listed = events_from 0 items ≡ answer listed
 
--- what stands outside the events of a value that was read
+-- the weights and the events' items of a value that was parsed
 abbrev pub outer_of : Option Data → Option (List ℕ × Items)
 outer_of read = read >>= outer_in
 
--- the weights alone
+-- only the weights
 abbrev pub weights_in : Option (List ℕ × Items) → Option (List ℕ)
 weights_in outer = option_map (λ o. o.0) outer
 
--- ---- what a text's tokens go on with
+-- ---- the values at the front of a text's tokens
 
--- a value whose arrays and objects nest so deep
+-- a value whose arrays and objects nest at most this deep
 abbrev pub value_read : ℕ → List Token → Option (Data × List Token)
 value_read depth ts = converted of_json (json.value depth ts)
 
@@ -64,13 +64,13 @@ abbrev pub members_read : ℕ → List Token → Option (Members × List Token)
 members_read depth ts =
     converted (λ ms. of_members ms no_members) (json.members (json.value depth) (length ts) ts)
 
--- the whole of the tokens, as one value
+-- all of the tokens, as one value
 abbrev pub whole_read : List Token → Option Data
 whole_read ts =
     option_and_then of_json
     (option_and_then (λ p. json.if_last p.0 p.1) (json.value max_depth ts))
 
--- an object comes first
+-- whether the first token begins an object
 abbrev pub opens_object : List Token → Bool
 opens_object [] = false
 opens_object (token.begin_object ∷ ts) = true
@@ -84,46 +84,46 @@ opens_object (token.boolean b ∷ ts) = false
 opens_object (token.null ∷ ts) = false
 opens_object (token.bad ∷ ts) = false
 
--- a value was read, and with it as an item more the answer is the same
+-- A value was parsed. Adding it as one more item to the earlier state gives the later one.
 pub record ListsMore (depth : ℕ) (old new : List Token) (before after : Listed) : Type 0 where
   pub datum : Data
   pub reads : value_read depth old ≡ Some (datum, new)
   pub shorter : length new < length old
   pub lists : (rest : Items) → answer_behind before (item datum rest) ≡ answer_behind after rest
 
--- with the value that the tree stands for as an item more the answer is the same
+-- Adding the value of the tree as one more item to the earlier state gives the later one.
 abbrev pub ListsTree : json.Json → Listed → Listed → Type 0
 ListsTree tree before after =
     (datum : Data) × (of_json tree ≡ Some datum)
     × ((rest : Items) → answer_behind before (item datum rest) ≡ answer_behind after rest)
 
--- the rest of an array was read, and these are its events
+-- the rest of an array was parsed, and these are its events
 pub record ListsAll (depth : ℕ) (old new : List Token) (listed : Listed) : Type 0 where
   pub all : Items
   pub reads : items_read depth old ≡ Some (all, new)
   pub shorter : length new < length old
   pub lists : events_from 0 all ≡ answer listed
 
--- a value was passed over
+-- a value was skipped
 pub record PassesValue (depth : ℕ) (old new : List Token) : Type 0 where
   pub datum : Data
   pub reads : value_read depth old ≡ Some (datum, new)
   pub shorter : length new < length old
 
--- the rest of an object was passed over
+-- the rest of an object was skipped
 pub record PassesMembers (depth : ℕ) (old new : List Token) : Type 0 where
   pub all : Members
   pub reads : members_read depth old ≡ Some (all, new)
   pub shorter : length new < length old
 
--- a value that is no array was passed over
+-- a value that is not an array was skipped
 pub record PassesNoArray (old new : List Token) : Type 0 where
   pub datum : Data
   pub reads : value_read 126 old ≡ Some (datum, new)
   pub shorter : length new < length old
   pub no_array : as_array datum ≡ None
 
--- Of the events' value this is kept, and these events.
+-- This is kept of the events' value, and these are its events.
 pub record KeepsEvents (old new : List Token) (value : Value) (listed : Listed) : Type 0 where
   pub datum : Data
   pub reads : value_read 126 old ≡ Some (datum, new)
@@ -131,7 +131,7 @@ pub record KeepsEvents (old new : List Token) (value : Value) (listed : Listed) 
   pub kept_is : view value ≡ hollow datum
   pub lists : Lists (as_array datum) listed
 
--- Of the value at the key this is kept, and these events, of which the others stood there before.
+-- This is kept of the value at the key, and these are the events, given those from before.
 pub record Keeps (key : List ℕ) (old new : List Token) (value : Value)
     (before after : Listed) : Type 0 where
   pub datum : Data
@@ -141,7 +141,7 @@ pub record Keeps (key : List ℕ) (old new : List Token) (value : Value)
   pub lists : (ms : Members) → Lists (items_of ms) before
       → Lists (items_of (put key datum ms)) after
 
--- Of the rest of an object these members are kept, and these events.
+-- These members are kept of the rest of an object, and these are its events.
 pub record KeepsAll (old new : List Token) (members : Members) (listed : Listed) : Type 0 where
   pub all : Members
   pub reads : members_read 126 old ≡ Some (all, new)
@@ -149,7 +149,7 @@ pub record KeepsAll (old new : List Token) (members : Members) (listed : Listed)
   pub kept_is : members ≡ kept all
   pub lists : Lists (items_of all) listed
 
--- Of the object that a text is this value is kept, and these events.
+-- This value is kept of the object that a text encodes, and these are its events.
 pub record KeepsWhole (read : Option Data) (value : Value) (listed : Listed) : Type 0 where
   pub all : Members
   pub reads : read ≡ Some (object all)

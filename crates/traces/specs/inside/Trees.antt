@@ -1,4 +1,4 @@
--- What a tree of a text's tokens is read as.
+-- Parsing of trees of a text's tokens.
 use Rattle.std.specs.Prelude.{◌≡◌, ℕ, List, Option, Some}
 use Rattle.std.specs.Global.{Global}
 use Rattle.json.specs.Json as json
@@ -12,21 +12,21 @@ use Rattle.serde_json.specs.Read.{of_json}
 use Rattle.std.specs.Borrow.{Bor}
 use Rattle.traces.specs.Fields.{◌>>=◌, answer_in}
 
--- the tree is a value that reads as this
+-- the tree is a value that is parsed as this
 abbrev pub Reads : {X : Type 0} → (Data → Option X) → json.Json → X → Type 0
 Reads read j x = (d : Data) × (of_json j ≡ Some d) × (read d ≡ Some x)
 
--- the canonical text of the path that the value spells
+-- the canonical form of the path that the value encodes
 abbrev pub path_in : Data → Option Text
 path_in d = as_str d >>= (λ text. answer_in (path_of text))
 
--- ---- objects of so many members, each a key and a value
+-- ---- objects of a given number of members, each a key and a value
 
 -- a key and its value
 abbrev pub Entry : Type 0
 Entry = Bor (List ℕ) × Value Global
 
--- a member and those behind it
+-- a member, followed by the others
 abbrev pub with_entry : Entry → json.Members → json.Members
 with_entry a ms = json.member a.0.now (value_view a.1) ms
 

@@ -1,11 +1,11 @@
--- What a contract sees of an inbox, and what it doesn't.
+-- The inside of an inbox, and how contracts see it.
 use Rattle.std.specs.Prelude.{◌≡◌, true}
 use Rattle.std.specs.List.{list_all}
 use Rattle.udp.specs.Inbox.{InboxState, is_vouched_for}
 use Rattle.udp.specs.Ways.{in_line}
 use Rattle.udp.specs.declared.inbox.Inbox.TheInside.{Inside}
 
--- what stands in an inbox: its key, all bytes that were a text, and the line of texts
+-- what contracts see of an inbox: its key, all received bytes that encode a text, and the queue
 abbrev pub inbox_view : Inside → InboxState
 inbox_view i = record {
   key = i.seal;
@@ -13,7 +13,7 @@ inbox_view i = record {
   waiting = in_line i.come.waiting.items;
 }
 
--- Each text that waits came.
+-- Each queued text was received.
 abbrev pub AreVouchedFor : Inside → Type 0
 AreVouchedFor i =
     list_all (λ w. is_vouched_for i.seal i.heard.all w.1) (in_line i.come.waiting.items) ≡ true

@@ -1,6 +1,6 @@
-//! What comes to a port: the sockets are looked at, and what came is taken off them.
+//! Received datagrams of a port: they are moved from the sockets to the queue.
 ghost use Rattle.std.specs.Prelude.{◌≡◌, Err, None, Ok, false, true};
-ghost use Rattle.ports.specs.Kept.{one_more};
+ghost use Rattle.datagram_ports.specs.Kept.{one_more};
 ghost use Rattle.udp.specs.Calls.{setup_of};
 ghost use Rattle.udp.specs.Inbox.{GoesOn};
 ghost use Rattle.udp.specs.Leaving.{IsLeft};
@@ -9,11 +9,12 @@ ghost use Rattle.udp.specs.Waiting.{patience_at};
 use crate::patience::{Hurry, Patience};
 use crate::sockets::{Sieve, take_off};
 use crate::udp_port::UdpPort;
-use ports::PortFault;
+use datagram_ports::PortFault;
 use std::time::{Clock, Instant};
 
 impl<C: Clock> UdpPort<'_, C> {
-    /// Looks at the sockets until something has come, as often as it may, and lets some leave.
+    /// Looks at the sockets until something came, or patience ends, and lets some datagrams leave.
+    /// Returns whether a socket failed.
     pub(crate) fn look(&mut self) -> bool
         ensures goes_on { GoesOn self.old.inbox self.new.inbox }
         ensures outbox { self.new.outbox ≡ self.old.outbox }
@@ -46,7 +47,7 @@ impl<C: Clock> UdpPort<'_, C> {
         }
     }
 
-    /// Looks at the sockets, and lets some leave.
+    /// Looks at the sockets once, and lets some datagrams leave. Returns whether a socket failed.
     fn look_once(&mut self) -> bool
         ensures goes_on { GoesOn self.old.inbox self.new.inbox }
         ensures outbox { self.new.outbox ≡ self.old.outbox }
@@ -61,8 +62,8 @@ impl<C: Clock> UdpPort<'_, C> {
         has_failed
     }
 
-    /// Takes what came off the sockets, as far as there is memory for it, and says whether one of
-    /// them failed.
+    /// Moves received datagrams from the sockets to the queue, as far as there is memory, and
+    /// returns whether a socket failed.
     pub(crate) fn take_in(&mut self) -> bool
         ensures goes_on { GoesOn self.old.inbox self.new.inbox }
         ensures stays { (self.new.failures ≡ self.old.failures)
@@ -91,7 +92,7 @@ impl<C: Clock> UdpPort<'_, C> {
         )
     }
 
-    /// Nothing came: that is a failure where a socket failed, and is counted then.
+    /// The answer if nothing came. If a socket failed, that is an error and is counted.
     pub(crate) fn nothing(&mut self, has_failed: bool) -> Result<Option<(u8, Vec<u8>)>, PortFault>
         ensures failed { has_failed ≡ true → (result ≡ Err PortFault.Failed)
             × (self.new.failures ≡ one_more self.old.failures) }

@@ -1,4 +1,4 @@
-//! What leaves a port: what is offered to it is handed to the system at once, or waits to leave.
+//! Outgoing datagrams of a port: they are handed to the system at once, or queued.
 ghost use Rattle.std.specs.Prelude.{◌≡◌, ◌≢◌, ◌++◌, ◌∷◌, ℕ, [], IfSome, Ok, map, true};
 ghost use Rattle.udp.specs.Calls.{setup_of};
 ghost use Rattle.udp.specs.Inbox.{GoesOn, came_as};
@@ -14,17 +14,17 @@ use faults::Memory;
 use std::thread;
 use std::time::{Clock, Duration};
 
-/// How many of those that wait leave at each look at the sockets.
+/// The maximum number of queued datagrams that leave at each look at the sockets.
 const LEAVE_AT_A_LOOK: usize = 4;
 
-/// How often a flush naps, in all, while the system takes nothing.
+/// The maximum number of naps of a flush, in all, while the system takes nothing.
 const NAPS_OF_A_FLUSH: u32 = 2_048;
 
-/// How long such a nap is, in microseconds.
+/// The length of such a nap, in microseconds.
 const NAP_OF_A_FLUSH: u64 = 1_000;
 
 impl<C: Clock> UdpPort<'_, C> {
-    /// Whether the port took the datagram.
+    /// Offers a datagram, and returns whether the port took it.
     pub(crate) fn is_taken(&mut self, from: u8, to: u8, bytes: &[u8]) -> Result<bool, Memory>
         ensures goes_on { GoesOn self.old.inbox self.new.inbox }
         ensures key { self.new.outbox.key ≡ self.old.outbox.key }
@@ -53,7 +53,7 @@ impl<C: Clock> UdpPort<'_, C> {
         }
     }
 
-    /// Hands the datagram that was made to the system, and takes in what came.
+    /// Hands the datagram that was made to the system, and takes in what was received.
     fn send_here(&mut self, way: Way) -> bool
         ensures goes_on { GoesOn self.old.inbox self.new.inbox }
         ensures outbox { self.new.outbox ≡ self.old.outbox }
@@ -74,8 +74,7 @@ impl<C: Clock> UdpPort<'_, C> {
         sent == Sent::Whole
     }
 
-    /// Puts the datagram that was made among those that wait to leave, unless there is no room for
-    /// it.
+    /// Appends the datagram that was made to the queue, if there is room for it.
     fn send_away(&mut self, way: Way) -> Result<bool, Memory>
         ensures goes_on { GoesOn self.old.inbox self.new.inbox }
         ensures outbox { self.new.outbox ≡ self.old.outbox }
@@ -97,7 +96,7 @@ impl<C: Clock> UdpPort<'_, C> {
         Ok(is_put)
     }
 
-    /// Lets some of those that wait leave, as long as the system takes them.
+    /// Lets some queued datagrams leave, as long as the system takes them.
     pub(crate) fn let_some_leave(&mut self)
         ensures left { IsLeft self.old.leaving.waiting.items self.old.handed.all
             self.new.leaving.waiting.items self.new.handed.all }
@@ -114,9 +113,9 @@ impl<C: Clock> UdpPort<'_, C> {
         }
     }
 
-    /// Hands one of those that wait to leave to the system, if one does, and says whether the
-    /// system may take another. What it doesn't take at the moment stays in line, and else it has
-    /// left.
+    /// Hands one of the queued datagrams to the system, if there is one, and returns whether the
+    /// system may take another. A datagram that the system doesn't take at the moment stays queued;
+    /// any other result removes it.
     fn let_one_leave(&mut self) -> bool
         ensures left { HasLeft self.old.leaving.waiting.items self.old.handed.all
             self.new.leaving.waiting.items self.new.handed.all }
@@ -146,9 +145,9 @@ impl<C: Clock> UdpPort<'_, C> {
         true
     }
 
-    /// Hands all that waits to leave to the system, in the order in which it waits, each once and
-    /// while there are naps left again and again, till the system takes it. What it doesn't take
-    /// then is lost, and is counted.
+    /// Hands all queued datagrams to the system, in order, each once. While the system takes none,
+    /// it naps and retries, until all naps are used up. What the system doesn't take then is lost,
+    /// and is counted.
     pub fn flush(&mut self)
         ensures left { self.new.leaving.waiting.items ≡ [] }
         ensures handed { self.new.handed.all ≡ self.old.handed.all
@@ -165,8 +164,8 @@ impl<C: Clock> UdpPort<'_, C> {
         }
     }
 
-    /// Hands the first of those that wait to leave to the system, till it takes it, or until so
-    /// many naps are over, and says how many are left.
+    /// Hands the first queued datagram to the system. It retries until the system takes it or this
+    /// many naps are over, and returns how many are left.
     fn let_first_leave(&mut self, naps: u32) -> u32
         ensures first { HandsOver self.old.leaving.waiting.items self.old.handed.all
             self.new.leaving.waiting.items self.new.handed.all }
@@ -185,7 +184,7 @@ impl<C: Clock> UdpPort<'_, C> {
     }
 }
 
-/// One left the line.
+/// Records that a datagram left the queue.
 fn note_handed(handed: &mut Told, tallies: &mut Tallies, gone: &Waiting<Way>, sent: Sent)
     ensures { handed.new.all ≡ handed.old.all ++ gone.now.bytes.items ∷ [] }
 {
@@ -195,8 +194,8 @@ fn note_handed(handed: &mut Told, tallies: &mut Tallies, gone: &Waiting<Way>, se
     }
 }
 
-/// Hands the datagram to the system, and again behind each of so many naps as long as it takes
-/// none at the moment. Answers what it did, and how many naps are left.
+/// Hands the datagram to the system, and retries after a nap, at most this many times, while the
+/// system takes none. Returns what the system did, and how many naps are left.
 fn hand_over_patiently<C: Clock>(
     clock: &C,
     seats: &[Seat],

@@ -2,9 +2,9 @@
 use crate::clusters::{
     LISTING, build_of, builds_of_two, cluster, disks, holders_of, is_of, tell, turns,
 };
+use datagram_ports::MemPort;
 use listing::Tree;
 use pkgpath::PkgPath;
-use ports::MemPort;
 use protocol::Packages;
 use std::alloc::Global;
 use std::test::Fail;

@@ -1,18 +1,17 @@
 //! Clusters of tests, and what their turns tell.
 use ballots::Weights;
-use choice::TurnFault;
+use cluster_turns::Cluster;
+use datagram_ports::Port;
 use engine::Counts;
-use events::Event;
 use faults::Fault;
 use listing::Tree;
 use package_record::{File, Files};
 use pkgpath::PkgPath;
-use ports::Port;
-use protocol::Packages;
+use protocol::{Event, Packages};
 use stable_record::{Disk, MemDisk};
 use std::alloc::Global;
 use std::test::Fail;
-use turns::Cluster;
+use turn_rules::TurnFault;
 
 /// How many turns a test takes.
 const TURNS: usize = 17;

@@ -1,7 +1,7 @@
 //! Receives that give nothing to a node that is up, and datagrams that are given once more.
 use crate::clusters::{LISTING, builds, cluster, disks, holders, tell, turn, turns};
+use datagram_ports::MemPort;
 use listing::Tree;
-use ports::MemPort;
 use protocol::Packages;
 use stable_record::{Failing, FaultDisk, MemDisk};
 use std::alloc::Global;

@@ -1,15 +1,14 @@
 //! What turns do where builds are made while the nodes run.
 use crate::clusters::{LISTING, builds, cluster, disks, holders, told, turn};
-use choice::TurnFault;
+use cluster_turns::Cluster;
+use datagram_ports::{MemPort, Port};
 use listing::Tree;
-use live_choice::Wish;
 use pkgpath::PkgPath;
-use ports::{MemPort, Port};
 use protocol::Packages;
 use stable_record::{Disk, MemDisk};
 use std::alloc::Global;
 use std::test::Fail;
-use turns::Cluster;
+use turn_rules::{TurnFault, Wish};
 
 /// What one turn did where this is made and wished: its event, or `...` for nothing.
 fn live_turn<D: Disk, P: Port>(

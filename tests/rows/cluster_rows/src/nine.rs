@@ -1,14 +1,14 @@
 //! Nine members that build a tree of many packages, and a world that takes the same events.
 use crate::clusters::{cluster, disks, holders_of, package};
 use ballots::Weights;
+use cluster_turns::Cluster;
+use datagram_ports::{MemPort, Port};
 use listing::Tree;
-use ports::{MemPort, Port};
 use protocol::Packages;
-use running::World;
+use simulator::World;
 use stable_record::Disk;
 use std::alloc::Global;
 use std::test::Fail;
-use turns::Cluster;
 
 /// How many packages there are.
 const PACKAGES: u32 = 48;

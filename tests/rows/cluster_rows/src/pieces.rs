@@ -1,8 +1,8 @@
 //! Builds of many pieces.
 use crate::clusters::{LISTING, build_of, cluster, disks, holders, turns_till_quiet};
 use crate::port::LossyPort;
+use datagram_ports::{MemPort, Port};
 use listing::Tree;
-use ports::{MemPort, Port};
 use std::alloc::Global;
 use std::test::Fail;
 

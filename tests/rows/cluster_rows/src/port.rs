@@ -1,7 +1,7 @@
 //! A port that loses what it is told to.
 ghost use Rattle.std.specs.Prelude.{None};
 
-use ports::{MemPort, Port, PortFault};
+use datagram_ports::{MemPort, Port, PortFault};
 use std::alloc::Global;
 
 /// Gives what was sent, in that order, but for what it loses, of which it says nothing.

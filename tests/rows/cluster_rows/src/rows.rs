@@ -1,7 +1,7 @@
 //! What turns of small clusters do, each with its event.
 use crate::clusters::{LISTING, builds, cluster, disks, holders, turn, turns};
+use datagram_ports::MemPort;
 use listing::Tree;
-use ports::MemPort;
 use protocol::Packages;
 use stable_record::{Failing, FaultDisk, MemDisk};
 use std::alloc::Global;

@@ -1,7 +1,7 @@
 //! Which members are a majority by what they weigh, with sends to one of them lost or to none.
 use crate::clusters::{LISTING, builds, cluster, disks, holders, turns};
+use datagram_ports::MemPort;
 use listing::Tree;
-use ports::MemPort;
 use protocol::Packages;
 use std::alloc::Global;
 use std::test::Fail;

@@ -1,19 +1,18 @@
 //! A node that is alone in its cluster, turn by turn, as builds are made.
 use ballots::Weights;
-use choice::{Act, TurnFault};
+use datagram_ports::MemPort;
 use engine::Counts;
 use listing::Tree;
-use live_choice::Wish;
+use lone_node::Solo;
 use member::Input;
 use node::Node;
 use package_record::{File, Files};
 use pkgpath::PkgPath;
-use ports::MemPort;
 use protocol::Packages;
-use solo::Solo;
 use stable_record::{Disk, MemDisk};
 use std::alloc::Global;
 use std::test::Fail;
+use turn_rules::{Act, TurnFault, Wish};
 
 static LISTING: &[u8] = b"a/b.FULLPKGNAME=b-1.0\n";
 

@@ -1,21 +1,20 @@
 //! What a desk wishes of a node that is alone, whose builds come in by a folder.
 use ballots::Weights;
-use choice::Act;
-use desk::{Desk, Look, Pace};
+use datagram_ports::MemPort;
 use engine::Counts;
+use job_folder::{Folder, Name};
 use listing::Tree;
-use live_choice::Wish;
+use lone_node::Solo;
 use member::Input;
 use node::Node;
-use ports::MemPort;
 use protocol::Packages;
-use solo::Solo;
+use scheduler::{Desk, Look, Pace};
 use stable_record::MemDisk;
 use std::alloc::Global;
 use std::fs;
 use std::test::Fail;
 use std::time::{Duration, Instant};
-use work::{Folder, Name};
+use turn_rules::{Act, Wish};
 
 /// The second is built on the first.
 static LISTING: &[u8] = b"a/b.FULLPKGNAME=b-1.0\na/c.FULLPKGNAME=c-1.0\na/c.BUILD_DEPENDS=a/b\n";

@@ -6,4 +6,6 @@ mod alone;
 #[cfg(test)]
 mod desks;
 #[cfg(test)]
+mod lone;
+#[cfg(test)]
 mod together;

@@ -1,17 +1,17 @@
 //! Nodes of one cluster, each with its desk, whose builds come in by folders of their own.
 use crate::desks::{BUILDS, TWO, hand_in, letter, name_of_job, pace};
 use ballots::Weights;
-use desk::Desk;
+use datagram_ports::{MemPort, Port};
 use engine::Counts;
+use job_folder::Folder;
 use listing::Tree;
+use lone_node::Solo;
 use node::Node;
-use ports::{MemPort, Port};
-use solo::Solo;
+use scheduler::Desk;
 use stable_record::MemDisk;
 use std::alloc::Global;
 use std::test::Fail;
 use std::time::{Duration, Instant};
-use work::Folder;
 
 /// The folders of three nodes.
 const WORKS: [&str; 3] = ["work-0", "work-1", "work-2"];

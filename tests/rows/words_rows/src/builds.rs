@@ -1,6 +1,6 @@
 //! Words of a build that are taken, and some that are not.
-use dpbn_words::{Call, Peers, Run, Site, dpbn_words};
 use clap::error::ErrorKind;
+use dpbn_cli::{Call, Peers, Run, Site, dpbn_words};
 use std::alloc::{AllocError, Global};
 use std::test::Fail;
 

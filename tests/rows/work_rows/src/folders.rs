@@ -1,14 +1,14 @@
 //! A folder of its own, and each way in which those who write there may end.
 use claims::{Claim, Dep, Deps, Job};
 use faults::Fault;
+use job_folder::{Answer, Folder, LONGEST_ANSWER, Name, WorkFault, job_text, task_text};
 use pkgname::PkgName;
 use pkgpath::PkgPath;
 use std::alloc::Global;
-use std::fs;
 use std::fs::File;
+use std::fs;
 use std::os::unix::fs::symlink;
 use std::test::Fail;
-use work::{Answer, Folder, LONGEST_ANSWER, Name, WorkFault, job_text, task_text};
 
 /// The digest of the tree.
 const TREE: [u8; 32] = [0x5a; 32];

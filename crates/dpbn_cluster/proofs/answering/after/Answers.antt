@@ -3,8 +3,8 @@ use Rattle.dpbn_cluster.proofs.Lines.{shown}
 use Rattle.dpbn_cluster.proofs.Running.{events_of}
 use Rattle.dpbn_cluster.specs.Cluster.{IsShown}
 use Rattle.dpbn_cluster.specs.Running.{AreEventsOf}
-use Rattle.events.specs.Events.{Event, event_view}
-use Rattle.turns.specs.State.{taken}
+use Rattle.protocol.specs.Events.{Event, event_view}
+use Rattle.cluster_turns.specs.State.{taken}
 use Rattle.dpbn_cluster.proofs.answering.after.Goals as goal
 
 pub returns-clause-shown : goal.returns-clause-shown

@@ -1,5 +1,5 @@
 use Rattle.dpbr_run.specs.shared.NodeLines.{HasNodeLines}
-use Rattle.turns.specs.State.{IsWorldOf}
+use Rattle.cluster_turns.specs.State.{IsWorldOf}
 use Rattle.world.specs.World.{World}
 use Rattle.dpbn_cluster.proofs.turning.lines_of.Given as goal
 

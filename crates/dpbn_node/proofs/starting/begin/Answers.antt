@@ -1,5 +1,5 @@
 use Rattle.std.proofs.Common.{option_map, string_bytes, subst, ◌∙◌}
-use Rattle.dpbn_run.specs.Keys.{shown_of}
+use Rattle.dpbn_node.specs.Keys.{shown_of}
 use Rattle.run_file.specs.Starts.{IsStarted}
 use Rattle.dpbn_node.proofs.starting.begin.Goals as goal
 

@@ -1,8 +1,8 @@
 use Rattle.std.specs.Prelude.{◌+◌}
 use Rattle.std.proofs.Common.{subst, sym}
-use Rattle.solo.specs.Turns.{HaveTurned}
-use Rattle.solo.proofs.Turns.{none_yet, one_more}
-use Rattle.solo.specs.Handed.{AllBuilds}
+use Rattle.lone_node.specs.Turns.{HaveTurned}
+use Rattle.lone_node.proofs.Turns.{none_yet, one_more}
+use Rattle.lone_node.specs.Handed.{AllBuilds}
 use Rattle.dpbn_node.proofs.turning.take_turns.Goals as goal
 
 pub loop-init : goal.loop-init

@@ -1,5 +1,5 @@
-use Rattle.solo.specs.Turns.{HaveTurned}
-use Rattle.solo.specs.Handed.{AllBuilds}
+use Rattle.lone_node.specs.Turns.{HaveTurned}
+use Rattle.lone_node.specs.Handed.{AllBuilds}
 use Rattle.dpbn_node.proofs.turning.take_turns.Given as goal
 
 abbrev pub invariant-loop : goal.invariant-loop

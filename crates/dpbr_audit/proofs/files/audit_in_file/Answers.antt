@@ -2,7 +2,7 @@ use Rattle.std.proofs.Common.{subst, sym}
 use Rattle.std.proofs.lemmas.Result.{err_from_is_err_and}
 use Rattle.dpbr_audit.proofs.Refusing.{list_told}
 use Rattle.dpbr_audit.specs.Audit.{RefusesList}
-use Rattle.program.proofs.Refusing.{text_read}
+use Rattle.program_io.proofs.Refusing.{text_read}
 use Rattle.dpbr_audit.proofs.files.audit_in_file.Goals as goal
 
 pub returns-in_err-verdict-clause-refused : goal.returns-in_err-verdict-clause-refused

@@ -1,8 +1,8 @@
 use Rattle.std.proofs.lemmas.Result.{err_from_is_err_and}
 use Rattle.dpbr_audit.proofs.Refusing.{list_told}
 use Rattle.dpbr_audit.specs.Audit.{RefusesList}
-use Rattle.program.proofs.Refusing.{first_refused, second_refused}
-use Rattle.program.specs.Listings.{rules_for}
+use Rattle.program_io.proofs.Refusing.{first_refused, second_refused}
+use Rattle.program_io.specs.Listings.{rules_for}
 use Rattle.dpbr_audit.proofs.texts.audit_of_texts.Goals as goal
 
 pub returns-in_err-tree-clause-refused : goal.returns-in_err-tree-clause-refused

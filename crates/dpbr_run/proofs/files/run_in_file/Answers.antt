@@ -2,7 +2,7 @@ use Rattle.std.proofs.Common.{refl}
 use Rattle.std.proofs.lemmas.Result.{err_from_is_err_and}
 use Rattle.dpbr_run.proofs.Refusing.{event_refused, trace_refused}
 use Rattle.dpbr_run.specs.Run.{RefusesTrace}
-use Rattle.program.proofs.Refusing.{text_read}
+use Rattle.program_io.proofs.Refusing.{text_read}
 use Rattle.dpbr_run.proofs.files.run_in_file.Goals as goal
 
 pub returns-in_err-trace-clause-refused : goal.returns-in_err-trace-clause-refused

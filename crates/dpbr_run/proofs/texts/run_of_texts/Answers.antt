@@ -1,7 +1,7 @@
 use Rattle.std.proofs.lemmas.Result.{IfErr-weaker, IfOk-weaker, err_from_is_err_and}
 use Rattle.dpbr_run.specs.Run.{RefusesTrace}
-use Rattle.program.proofs.Refusing.{first_refused, second_refused}
-use Rattle.program.specs.Listings.{rules_for}
+use Rattle.program_io.proofs.Refusing.{first_refused, second_refused}
+use Rattle.program_io.specs.Listings.{rules_for}
 use Rattle.dpbr_run.proofs.texts.run_of_texts.Goals as goal
 
 pub returns-in_err-tree-clause-refused : goal.returns-in_err-tree-clause-refused

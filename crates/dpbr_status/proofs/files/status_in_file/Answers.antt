@@ -2,7 +2,7 @@ use Rattle.std.proofs.Common.{subst, sym}
 use Rattle.std.proofs.lemmas.Result.{err_from_is_err_and}
 use Rattle.dpbr_status.proofs.Refusing.{held_told}
 use Rattle.dpbr_status.specs.Status.{RefusesHeld}
-use Rattle.program.proofs.Refusing.{text_read}
+use Rattle.program_io.proofs.Refusing.{text_read}
 use Rattle.dpbr_status.proofs.files.status_in_file.Goals as goal
 
 pub returns-in_err-text-clause-refused : goal.returns-in_err-text-clause-refused

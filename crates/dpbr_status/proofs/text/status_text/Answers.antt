@@ -2,7 +2,7 @@ use Rattle.std.proofs.Common.{◌≡◌, ◌∙◌, ◌<◌, ◌++◌, length, r
 use Rattle.listing.specs.Tree.{Tree, name_at, path_at}
 use Rattle.faults.specs.Bytes.{Text}
 use Rattle.dpbr_status.specs.Status.{package_line}
-use Rattle.program.specs.NodeLine.{counts_line}
+use Rattle.program_io.specs.NodeLine.{counts_line}
 use Rattle.dpbr_status.proofs.PackageLines.{all_lines, lines_more}
 use Rattle.dpbr_status.proofs.text.status_text.Goals as goal
 

@@ -1,8 +1,8 @@
 use Rattle.std.proofs.lemmas.Result.{err_from_is_err_and}
 use Rattle.dpbr_status.proofs.Refusing.{held_told}
 use Rattle.dpbr_status.specs.Status.{RefusesHeld}
-use Rattle.program.proofs.Refusing.{first_refused, second_refused}
-use Rattle.program.specs.Listings.{rules_for}
+use Rattle.program_io.proofs.Refusing.{first_refused, second_refused}
+use Rattle.program_io.specs.Listings.{rules_for}
 use Rattle.dpbr_status.proofs.texts.status_of_texts.Goals as goal
 
 pub returns-in_err-tree-clause-refused : goal.returns-in_err-tree-clause-refused

@@ -4,8 +4,8 @@ use Rattle.std.proofs.lemmas.List.Elements.{All-nil}
 use Rattle.std.specs.Prelude.{All}
 use Rattle.dpbr_wayon.specs.inside.Sound.{IsSound}
 use Rattle.dpbr_wayon.proofs.Growing.{all_more, at_this}
-use Rattle.events.specs.Events.{event_view}
-use Rattle.events.specs.declared.event.Event as declared
+use Rattle.protocol.specs.Events.{event_view}
+use Rattle.protocol.specs.declared.event.Event as declared
 use Rattle.traces.specs.Again.{IsTextEvent}
 use Rattle.dpbr_wayon.proofs.writable.can_be_written.Goals as goal
 

@@ -1,7 +1,7 @@
 use Rattle.std.proofs.Common.{map, take}
 use Rattle.std.specs.Prelude.{All}
 use Rattle.dpbr_wayon.specs.inside.Sound.{IsSound}
-use Rattle.events.specs.Events.{event_view}
+use Rattle.protocol.specs.Events.{event_view}
 use Rattle.traces.specs.Again.{IsTextEvent}
 use Rattle.dpbr_wayon.proofs.writable.can_be_written.Given as goal
 

@@ -1,6 +1,6 @@
 use Rattle.std.proofs.Common.{◌<◌, List, ap, map, subst, sym, ◌∙◌}
 use Rattle.std.proofs.lemmas.List.{length-map}
-use Rattle.agreement.specs.Member.{Facts}
+use Rattle.claims.specs.Member.{Facts}
 use Rattle.ballots.specs.declared.message.Note.{Note}
 use Rattle.protocol.specs.State.{Value}
 use Rattle.member.specs.shared.Fields.{engine_with, facts_of_known}

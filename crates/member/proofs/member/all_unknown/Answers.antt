@@ -1,6 +1,6 @@
 use Rattle.std.proofs.Common.{◌∷◌, ◌++◌, ◌∙◌, [], ap, map}
 use Rattle.std.proofs.lemmas.List.{map-append, replicate_more}
-use Rattle.agreement.specs.Member.{no_facts}
+use Rattle.claims.specs.Member.{no_facts}
 use Rattle.member.specs.shared.Fields.{facts_of_known}
 use Rattle.member.proofs.member.all_unknown.Goals as goal
 

@@ -1,5 +1,5 @@
 use Rattle.std.proofs.Common.{◌≡◌, map, replicate}
-use Rattle.agreement.specs.Member.{no_facts}
+use Rattle.claims.specs.Member.{no_facts}
 use Rattle.member.specs.shared.Fields.{facts_of_known}
 use Rattle.member.proofs.member.all_unknown.Given as goal
 

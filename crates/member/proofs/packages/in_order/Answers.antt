@@ -1,6 +1,6 @@
 use Rattle.std.proofs.Common.{rules, ◌<◌, length, map}
 use Rattle.std.proofs.lemmas.List.Elements.{All-contains}
-use Rattle.listing.specs.Tree.{path_at}
+use Rattle.engine.specs.Tree.{path_at}
 use Rattle.engine.proofs.InOrder.{paths_differ, sorted_as_set}
 use Rattle.member.proofs.packages.in_order.Goals as goal
 

@@ -5,7 +5,7 @@ use Rattle.std.specs.List.{slice_index_or}
 use Rattle.std.specs.Str.{bytes_eq}
 use Rattle.std.proofs.lemmas.List.{map-append}
 use Rattle.indexmap.specs.IndexMap.{get}
-use Rattle.listing.specs.Tree.{path_at}
+use Rattle.engine.specs.Tree.{path_at}
 use Rattle.package_record.specs.Content.{NamedFile}
 use Rattle.member.specs.inside.Packages.{made_at, made_of}
 use Rattle.member.proofs.MadePackages.{apart, found_more, made_more}

@@ -2,7 +2,7 @@ use Rattle.std.proofs.Common.{◌≡◌, ℕ, ◌≤◌, ◌<◌, length, map, t
 use Rattle.std.specs.List.{slice_index_or}
 use Rattle.std.specs.Str.{bytes_eq}
 use Rattle.indexmap.specs.IndexMap.{get}
-use Rattle.listing.specs.Tree.{path_at}
+use Rattle.engine.specs.Tree.{path_at}
 use Rattle.member.specs.inside.Packages.{have_files, made_at, made_of}
 use Rattle.member.proofs.packages.made.Given as goal
 

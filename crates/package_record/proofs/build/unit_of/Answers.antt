@@ -3,7 +3,7 @@ use Rattle.std.specs.List.{slice_index_or}
 use Rattle.std.specs.Prelude.{IfOk}
 use Rattle.package_record.specs.Build.{unit_path}
 use Rattle.package_record.specs.Content.{Content}
-use Rattle.pkgpath.specs.PkgPath.{without_subpackage}
+use Rattle.claims.specs.PkgPath.{without_subpackage}
 use Rattle.package_record.proofs.build.unit_of.Goals as goal
 
 -- the unit of two records or more

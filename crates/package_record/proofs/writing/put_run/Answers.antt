@@ -1,6 +1,6 @@
 use Rattle.std.proofs.Common.{arith}
 use Rattle.std.proofs.lemmas.List.Elements.{All-more}
-use Rattle.pkgpath.specs.PkgPath.{IsPath}
+use Rattle.claims.specs.PkgPath.{IsPath}
 use Rattle.package_record.specs.Content.{run_line}
 use Rattle.package_record.proofs.Texts.{ended_none, ended_next}
 use Rattle.package_record.proofs.writing.put_run.Goals as goal

@@ -1,6 +1,6 @@
 use Rattle.std.proofs.Common.{◌≡◌, ◌++◌, map, take}
 use Rattle.std.specs.List.{All}
-use Rattle.pkgpath.specs.PkgPath.{IsPath}
+use Rattle.claims.specs.PkgPath.{IsPath}
 use Rattle.package_record.specs.Content.{ended, run_line}
 use Rattle.package_record.proofs.writing.put_run.Given as goal
 

@@ -2,7 +2,7 @@ use Rattle.std.proofs.Common.{◌≡◌, ◌≤◌, ◌<◌, ◌++◌, ◌^◌, 
 use Rattle.stable_record.specs.Log.{entries, note_of}
 use Rattle.stable_record.proofs.reading.notes_behind.Given as goal
 
--- what was read are the notes in front of the rest
+-- the notes read so far come before the rest
 abbrev pub invariant-loop-notes : goal.invariant-loop-notes
 invariant-loop-notes l = record {
   within : length l.rest ≤ length l.file;

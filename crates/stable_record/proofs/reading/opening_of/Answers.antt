@@ -10,7 +10,7 @@ use Rattle.stable_record.specs.Opening.{IsBroken, neither, lacks_weights, broken
 use Rattle.stable_record.specs.inside.Reading.{OpensTo}
 use Rattle.stable_record.proofs.reading.opening_of.Goals as goal
 
--- the gate and what is behind it
+-- the gate and the header after it
 begins : (i : Identity) (file owner : List ℕ) (n : ℕ) → owner ≡ header i → slice_get file 0 ≡ Some open_gate → take (length owner) (drop 1 file) ≡ owner → n ≡ length owner → take (n + 1) file ≡ open_gate ∷ header i
 begins i [] owner n is opened right size = absurd (let e : None ≡ Some open_gate = opened in cc)
 begins i (gate ∷ rest) owner n is opened right size =
@@ -27,15 +27,15 @@ refused_at : (r : Result Opening LogFault) (i : Identity) (file : List ℕ) (fir
 refused_at (Ok o) i file first h at = tt
 refused_at (Err e) i file first h at = ⊎_elim (λ none. inl none) (λ is. inr (subst (λ f. Opens i file (Err f)) (sym is.0) (broken (is.1 i at)))) h
 
--- the answer of the test, over the file
+-- the test's result, for the file
 owner_of : (file owner x : List ℕ) → x ≡ owner → take (length x) (take (length file - 1) (drop 1 file)) ≡ x → take (length owner) (drop 1 file) ≡ owner
 owner_of file owner x same right = subst (λ l. take (length l) (drop 1 file) ≡ l) same (ap (take (length x)) (sym (take_rest file 1)) ∙ right)
 
--- it isn't longer than the file
+-- the header isn't longer than the file
 within : (file owner : List ℕ) (n : ℕ) → take (length owner) (drop 1 file) ≡ owner → 44 ≤ length file → n ≡ length owner → n + 1 ≤ length file
 within file owner n right long size = omega (arith, ap length right, length-take (length owner) (drop 1 file), length-drop 1 file, long, size)
 
--- and back
+-- the converse
 owner_at : (file header x : List ℕ) → x ≡ header → take (length header) (drop 1 file) ≡ header
     → take (length x) (take (length file - 1) (drop 1 file)) ≡ x
 owner_at file header x same right =

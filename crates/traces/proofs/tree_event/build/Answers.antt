@@ -1,7 +1,7 @@
 use Rattle.std.proofs.Common.{◌≡◌, ap, codes, sym, subst, ◌∙◌}
 use Rattle.json.specs.Json.{string}
 use Rattle.json.specs.Value.{value_view}
-use Rattle.events.specs.Events.{Built}
+use Rattle.protocol.specs.Events.{Built}
 use Rattle.traces.specs.Events.{event_in}
 use Rattle.traces.specs.Fields.{files_in, number_of}
 use Rattle.traces.specs.inside.Trees.{Reads, four, path_in}

@@ -1,6 +1,6 @@
 use Rattle.std.proofs.Common.{◌≡◌, ap, subst, sym, ◌∙◌}
 use Rattle.std.specs.Prelude.{IfOk}
-use Rattle.events.specs.Events.{event_view}
+use Rattle.protocol.specs.Events.{event_view}
 use Rattle.json.proofs.Trees.{view-Object}
 use Rattle.json.specs.Json.{object}
 use Rattle.json.specs.Value.{members_view, value_view}

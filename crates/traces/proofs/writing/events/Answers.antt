@@ -1,5 +1,5 @@
 use Rattle.std.proofs.Common.{◌∙◌, ap, arith}
-use Rattle.events.specs.Events.{event_view}
+use Rattle.protocol.specs.Events.{event_view}
 use Rattle.serde_json.proofs.Views.{view-Array}
 use Rattle.serde_json.specs.View.{view}
 use Rattle.traces.specs.Written.{event_data, list_data}

@@ -1,5 +1,5 @@
 use Rattle.std.proofs.Common.{◌≡◌, map, take}
-use Rattle.events.specs.Events.{event_view}
+use Rattle.protocol.specs.Events.{event_view}
 use Rattle.serde_json.specs.View.{view}
 use Rattle.traces.specs.Written.{event_data}
 use Rattle.traces.proofs.writing.events.Given as goal

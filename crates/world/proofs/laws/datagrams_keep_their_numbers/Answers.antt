@@ -1,6 +1,6 @@
-use Rattle.world.proofs.Distinct.{nothing_sent_twice}
-use Rattle.world.proofs.Growing.{leads_later}
-use Rattle.world.proofs.Leading.{leads_together}
+use Rattle.world.proofs.DistinctEntries.{nothing_sent_twice}
+use Rattle.world.proofs.Growth.{leads_later}
+use Rattle.world.proofs.EventParts.{leads_together}
 use Rattle.world.proofs.laws.datagrams_keep_their_numbers.Goals as goal
 use Rattle.std.specs.Prelude.{◌++◌}
 use Rattle.world.specs.World.{start}

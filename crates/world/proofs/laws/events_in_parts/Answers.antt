@@ -1,4 +1,4 @@
-use Rattle.world.proofs.Leading.{leads_in_parts, leads_together}
+use Rattle.world.proofs.EventParts.{leads_in_parts, leads_together}
 use Rattle.world.proofs.laws.events_in_parts.Goals as goal
 
 pub returns-clause-parts : goal.returns-clause-parts

@@ -1,5 +1,5 @@
-use Rattle.world.proofs.Distinct.{one_a_path}
-use Rattle.world.proofs.Growing.{list_grows}
+use Rattle.world.proofs.DistinctEntries.{one_a_path}
+use Rattle.world.proofs.Growth.{list_grows}
 use Rattle.world.proofs.laws.lists_grow.Goals as goal
 
 pub returns-clause-grows : goal.returns-clause-grows

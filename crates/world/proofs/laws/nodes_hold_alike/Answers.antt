@@ -1,4 +1,4 @@
-use Rattle.world.proofs.Alike.{held_alike}
+use Rattle.world.proofs.HeldAlike.{held_alike}
 use Rattle.world.proofs.laws.nodes_hold_alike.Goals as goal
 
 pub returns : goal.returns

@@ -3,7 +3,8 @@ use Rattle.std.proofs.lemmas.Bool.{cases_lt}
 use Rattle.engine.proofs.Bits.{bit_in, rest-before, rest-clear, rest-set}
 use Rattle.engine.proofs.row.Row.first_from.Goals as goal
 
--- what is least in the later words is least from the position on, where the rest of its word is clear
+-- the lowest set bit in the later words is the lowest from the position on, if the rest of its own
+-- word is clear
 on_words : (words : List ℕ) (from : ℕ) (o : Option ℕ)
     → ((p : ℕ) → from ≤ p → p < (from / 64 + 1) * 64 → bit_in words p ≡ 0)
     → MatchOption o ((p : ℕ) → (from / 64 + 1) * 64 ≤ p → bit_in words p ≡ 0)

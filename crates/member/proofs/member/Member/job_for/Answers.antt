@@ -1,6 +1,6 @@
 use Rattle.std.proofs.Common.{◌<◌, ◌∙◌, ap, length, map, subst, sym}
 use Rattle.claims.specs.Deps.{AreInOrder, is_ascending}
-use Rattle.listing.specs.Tree.{path_at}
+use Rattle.engine.specs.Tree.{path_at}
 use Rattle.protocol.specs.State.{State}
 use Rattle.protocol.proofs.MadeBuilds.{deps_in_order}
 use Rattle.protocol.proofs.PackageOrder.{paths_ascend}

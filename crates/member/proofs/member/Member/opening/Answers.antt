@@ -1,7 +1,7 @@
 use Rattle.std.proofs.Common.{None, Some, ap, length, sym, ◌∙◌}
 use Rattle.std.specs.List.{range_with_len}
 use Rattle.std.proofs.lemmas.Bool.{false≢true}
-use Rattle.agreement.specs.Quorums.{nobody}
+use Rattle.claims.specs.Quorums.{nobody}
 use Rattle.ballots.specs.Support.{Support, set_of}
 use Rattle.ballots.specs.declared.message.Body.TheVariants.{Offer}
 use Rattle.protocol.specs.Answers.{message_of}

@@ -5,7 +5,7 @@ use Rattle.std.specs.Prelude.{MatchResult}
 use Rattle.std.specs.Str.{bytes_eq}
 use Rattle.claims.specs.Deps.{is_ascending}
 use Rattle.indexmap.specs.IndexMap.{get}
-use Rattle.listing.specs.Tree.{Tree, path_at}
+use Rattle.engine.specs.Tree.{Tree, path_at}
 use Rattle.engine.specs.Division.{unit_at}
 use Rattle.protocol.specs.State.{State}
 use Rattle.protocol.specs.declared.refusal.Refusal.TheVariants.{Memory, OtherPackages}

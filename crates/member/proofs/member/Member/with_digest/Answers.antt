@@ -1,6 +1,6 @@
 use Rattle.std.proofs.Common.{◌≡◌, None, Some, ap, length, map, refl, replicate, subst, sym, ◌∙◌}
 use Rattle.std.specs.FinSet as set
-use Rattle.agreement.specs.Member.{no_facts}
+use Rattle.claims.specs.Member.{no_facts}
 use Rattle.protocol.specs.Answers.{tree_digest}
 use Rattle.protocol.specs.Member.{IsMember}
 use Rattle.protocol.specs.State.{fresh}

@@ -1,4 +1,4 @@
--- It makes a value of no bytes, at the empty list.
+-- The value has no bytes, and its ghost value is the empty list.
 use mathlib.Core.Path.{refl}
 use mathlib.Core.List.{[], ◌∷◌}
 use seplogic.Ra.Ura.{Ura}

@@ -18,7 +18,7 @@ invariant_of-self-in-Err c =
     let new = c.note-in-Err.new.self in
     record { were_bytes = noted_failed_cut old.noted.past new.past c.note-in-Err.ensures.0 old.noted.events new.events old.were_bytes c.args.len c.note-in-Err.ensures.1 }
 
--- it is among the calls, done or not
+-- the cut is in the history, done or not
 pub returns-in-Err-clause-failed : goal.returns-in-Err-clause-failed
 returns-in-Err-clause-failed c = λ device.
     let len = c.args.len in

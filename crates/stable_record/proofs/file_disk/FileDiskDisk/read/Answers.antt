@@ -9,7 +9,7 @@ use Rattle.stable_record.specs.inside.Possible.{and_right}
 use Rattle.stable_record.proofs.Bytes.{noted}
 use Rattle.stable_record.proofs.file_disk.FileDiskDisk.read.Goals as goal
 
--- what was read, where the history agrees
+-- what was read, if the history agrees
 reads_at : (file buf : List ℕ) (at count : ℕ) → count ≤ length buf → take count buf ≡ take (length buf) (drop at file) → ReadsAt file at count buf
 reads_at file buf at count fits same =
     let there = take (length buf) (drop at file) in

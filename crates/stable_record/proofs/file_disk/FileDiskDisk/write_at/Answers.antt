@@ -19,7 +19,7 @@ invariant_of-self-in-Err c =
     let new = c.note-in-Err.new.self in
     record { were_bytes = noted_failed_write old.noted.past new.past c.note-in-Err.ensures.0 old.noted.events new.events old.were_bytes c.args.at (length c.args.bytes.now) c.note-in-Err.ensures.1 }
 
--- it is among the calls, and torn
+-- the write is in the history, and torn
 pub returns-in-Err-clause-failed : goal.returns-in-Err-clause-failed
 returns-in-Err-clause-failed c = λ device.
     let at = c.args.at in

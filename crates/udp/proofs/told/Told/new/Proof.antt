@@ -1,4 +1,4 @@
--- It makes a value of no bytes, at the empty list.
+-- It makes a value of size 0, with the empty list as its ghost value.
 use mathlib.Core.Path.{refl}
 use mathlib.Core.List.{[], ◌∷◌}
 use seplogic.Ra.Ura.{Ura}

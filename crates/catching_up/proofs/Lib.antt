@@ -1,6 +1,0 @@
-mod Claimed
-mod Claiming
-mod Lists
-mod Missing
-mod Ordered
-mod Showing

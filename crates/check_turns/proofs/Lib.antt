@@ -1,0 +1,16 @@
+mod Answered
+mod Asked
+mod Crashing
+mod Following
+mod Going
+mod Handed
+mod Hearing
+mod Idle
+mod InMemory
+mod Listed
+mod Offered
+mod Reopening
+mod Sending
+mod Showing
+mod TwoTurns
+mod Waiting

@@ -1,0 +1,9 @@
+mod Following
+mod Joined
+mod Knowing
+mod Later
+mod Left
+mod Offers
+mod Reopening
+mod Taking
+mod Whole

@@ -1,3 +1,0 @@
-mod Keeping
-mod OneChoice
-pub mod SomeOwn

@@ -1,9 +1,0 @@
--- What a node does in a turn, as what it is asked.
-use Rattle.node.specs.Step.{Asked, Comes, Does}
-use Rattle.choice.specs.declared.act.Act.{Act}
-use Rattle.choice.specs.declared.act.Act.TheVariants.{Own, Datagram}
-
--- what the node is asked
-abbrev pub asked_by : Act → Asked
-asked_by (Own input) = Does input
-asked_by (Datagram bytes) = Comes bytes.items

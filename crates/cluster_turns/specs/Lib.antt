@@ -1,0 +1,15 @@
+pub mod AnyCase
+pub mod Calls
+pub mod Choosing
+pub mod Disks
+pub mod Events
+pub mod Faults
+pub mod Handed
+pub mod Headline
+pub mod Here
+pub mod Recording
+pub mod Starting
+pub mod State
+pub mod Turn
+pub mod Unfailed
+pub mod inside

@@ -1,6 +1,0 @@
-mod Among
-mod HeldUnits
-mod Left
-mod Moved
-mod Seen
-mod Wished

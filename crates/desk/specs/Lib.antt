@@ -1,7 +1,0 @@
-pub mod Held
-pub mod Keeping
-pub mod Looking
-pub mod Posted
-pub mod Taking
-pub mod Waiting
-pub mod Wishing

@@ -1,0 +1,76 @@
+//! How a node finds its log.
+ghost use Rattle.std.specs.Prelude.{◌≡◌, IfErr, IfOk, option_map, string_bytes};
+ghost use Rattle.dpbn_node.specs.Keys.{shown_of};
+ghost use Rattle.dpbn_node.specs.Starts.{IsStartRefusal, owner};
+ghost use Rattle.program_io.specs.Refusals.{IsSystemRefusal};
+ghost use Rattle.run_file.specs.Starts.{IsStarted};
+
+use crate::sealing::Sealing;
+use arrayvec::ArrayVec;
+use ballots::Weights;
+use listing::Tree;
+use program_io::Refusal;
+use run_file::{Start, start_on, write_run};
+use stable_record::Identity;
+
+/// Finds what the member's node starts on, in this folder, which must exist. Nothing is written to
+/// a file yet.
+///
+/// # Errors
+///
+/// The system's refusal, also if the log is locked; that the log can't be read; that it is lost,
+/// belongs to another run, or is missing although the run is continued.
+pub fn start_of(
+    rt: &HostRuntime,
+    folder: &str,
+    identity: &Identity,
+    sealing: &Sealing,
+    is_continued: bool,
+) -> Result<Start, Refusal>
+    ensures started { IfOk result (λ s. IsStarted identity.now (shown_of sealing.now.key)
+        is_continued (option_map string_bytes s.unwritten)) }
+    ensures refused { IfErr result
+        (IsStartRefusal identity.now (shown_of sealing.now.key) is_continued) }
+{
+    let shown = sealing.shown();
+    match start_on(rt, folder, identity, shown.as_ref(), is_continued) {
+        Ok(start) => Ok(start),
+        Err(fault) => Err(Refusal::of(&fault)),
+    }
+}
+
+/// The owner of the log: this member, among members with these weights, over the tree.
+pub fn identity_of(tree: &Tree, weights: &Weights, me: u8) -> Identity
+    ensures { result ≡ owner tree.now weights.now me }
+{
+    let _count = weights.len();
+    let mut table = ArrayVec::new();
+    table.try_extend_from_slice(weights.as_slice()).unwrap();
+    Identity {
+        tree: tree.digest(),
+        weights: table,
+        me,
+    }
+}
+
+/// Writes the member's run file, if it isn't written yet.
+///
+/// # Errors
+///
+/// The system's refusal.
+pub fn write_unwritten(
+    rt: &HostRuntime,
+    folder: &str,
+    me: u8,
+    unwritten: Option<String>,
+) -> Result<(), Refusal>
+    ensures { IfErr result IsSystemRefusal }
+{
+    let Some(text) = unwritten else {
+        return Ok(());
+    };
+    match write_run(rt, folder, me, text.as_bytes()) {
+        Ok(()) => Ok(()),
+        Err(fault) => Err(Refusal::of(&fault)),
+    }
+}

@@ -1,2 +1,0 @@
-mod RequestLemmas
-mod RepeatLemmas

@@ -1,5 +1,0 @@
-use Rattle.dpbn_run.proofs.RepeatLemmas.{faults_are_counted}
-use Rattle.dpbn_run.proofs.laws.faults_are_counted.Goals as goal
-
-pub returns : goal.returns
-returns c = faults_are_counted

@@ -1,0 +1,35 @@
+-- Which matches are those of a call.
+use Rattle.std.specs.Prelude.{◌≡◌, ◌⊎◌, codes, fold, ℕ, pos, List, [], ◌∷◌, Option, None, Some}
+use Rattle.clap.specs.Words.{App, IsSignedIn, Row, Text, new_app, one_of, with_rule, without_minus}
+use Rattle.dpbr_cli.specs.Calls.{IsWord, number, word}
+
+-- a word was matched for each of two arguments
+abbrev pub HasBoth : List Row → Text → Text → Type 0
+HasBoth rows one other = ((t : Text) × IsWord rows one t) × ((t : Text) × IsWord rows other t)
+
+-- a number from 0 to this maximum was matched for the argument
+abbrev pub HasNumber : List Row → Text → ℕ → Type 0
+HasNumber rows id most =
+    (t : Text) × IsSignedIn (pos 0) (pos most) t × (one_of id rows ≡ Some (without_minus t))
+
+-- a word or a number was matched for each argument of `wayon`
+pub record NamesWay (rows : List Row) : Type 0 where
+  pub files : HasBoth rows (codes "LISTING") (codes "TRACE")
+  pub node : HasNumber rows (codes "NODE") 255
+  pub rest : HasBoth rows (codes "PATH") (codes "BUILDS")
+  pub host : HasNumber rows (codes "HOST") 65535
+
+-- clap matched a call's subcommand, and a word or number for each of its arguments
+abbrev pub NamesCall : Option (Text × List Row) → Type 0
+NamesCall None = ⊥
+NamesCall (Some (name, rows)) =
+    ((name ≡ codes "status") × HasBoth rows (codes "LISTING") (codes "HELD"))
+    ⊎ ((name ≡ codes "audit") × HasBoth rows (codes "LISTING") (codes "LIST"))
+    ⊎ ((name ≡ codes "run") × HasBoth rows (codes "LISTING") (codes "TRACE"))
+    ⊎ ((name ≡ codes "wayon") × NamesWay rows)
+
+-- the arguments of `wayon` up to its path, as a command of their own
+abbrev pub wayon_front : App
+wayon_front = fold with_rule (new_app (codes "wayon"))
+    (word (codes "LISTING") ∷ word (codes "TRACE") ∷ number (codes "NODE") 255
+    ∷ word (codes "PATH") ∷ [])

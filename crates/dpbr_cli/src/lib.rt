@@ -1,0 +1,131 @@
+//! The command line of `dpbr`: which call of the program it is, as clap parses it.
+#![tactic(auto)]
+
+ghost use Rattle.std.specs.Prelude.{◌≡◌, IfNone, IfOk, IfSome, map};
+ghost use Rattle.clap.specs.Words.{FailsBy, app_of, subcommand_rows_of};
+ghost use Rattle.dpbr_cli.specs.Calls.{IsCallOf, dpbr_app, faults_of, letters_app, list_app, matched, run_app};
+ghost use Rattle.dpbr_cli.specs.inside.Naming.{NamesCall};
+
+mod arguments;
+mod audit;
+mod run;
+mod status;
+mod wayon;
+
+pub use arguments::{is_single, single, text_of};
+use clap::error::ErrorKind;
+use clap::{ArgMatches, Command, Error};
+use std::alloc::{AllocError, Global};
+use std::convert::AsStr;
+
+/// A call of the program, with its arguments, such as the names of files, and whether each path of
+/// the listing is a group of its own.
+#[derive(Debug, Drop)]
+pub enum Call<'a> {
+    /// The letters of a listing's packages, if those in a text of package paths are held.
+    Status {
+        listing: &'a str,
+        held: &'a str,
+        is_single: bool,
+    },
+    /// Whether a list of packages is allowed by a listing.
+    Audit {
+        listing: &'a str,
+        list: &'a str,
+        is_single: bool,
+    },
+    /// The state that a trace of events leaves, of nodes that build a listing's packages.
+    Run {
+        listing: &'a str,
+        trace: &'a str,
+        is_single: bool,
+    },
+    /// Events after those of a trace that make a node hold the packages of a path, which a host
+    /// builds from the given files.
+    Wayon {
+        listing: &'a str,
+        trace: &'a str,
+        node: u8,
+        path: &'a str,
+        host: u16,
+        builds: &'a str,
+        is_single: bool,
+    },
+}
+
+/// The call of these words, of which the first is the program's name.
+///
+/// Words that are not a call, or that ask for help, are refused with clap's text.
+pub fn dpbr_words<'a, S: AsStr>(alloc: Global, words: &'a [S]) -> Result<Call<'a>, Error>
+    ensures call { IfOk result (IsCallOf (matched (map S.text words.entry.now))) }
+    // If there is a call, clap found no fault in the words. A refusal is either out of memory or of
+    // the kind of one of their faults.
+    ensures faults { FailsBy (faults_of (map S.text words.entry.now)) result }
+{
+    let matches = matches_of(alloc, words)?;
+    match call_of(&matches) {
+        Some(call) => Ok(call),
+        None => Err(no_call(alloc)?),
+    }
+}
+
+/// clap's matches of the words.
+fn matches_of<'a, S: AsStr>(alloc: Global, words: &'a [S]) -> Result<ArgMatches<'a>, Error>
+    ensures matched { IfOk result
+        (λ m. subcommand_rows_of m ≡ matched (map S.text words.entry.now)) }
+    ensures faults { FailsBy (faults_of (map S.text words.entry.now)) result }
+{
+    let command = dpbr_command(alloc)?;
+    command.try_get_matches_from(words)
+}
+
+fn call_of<'a>(matches: &ArgMatches<'a>) -> Option<Call<'a>>
+    ensures some { IfSome result (IsCallOf (subcommand_rows_of matches.now)) }
+    ensures none { IfNone result (¬ NamesCall (subcommand_rows_of matches.now)) }
+{
+    match matches.subcommand() {
+        Some(("status", found)) => status::call_of(found),
+        Some(("audit", found)) => audit::call_of(found),
+        Some(("run", found)) => run::call_of(found),
+        Some(("wayon", found)) => wayon::call_of(found),
+        _ => None,
+    }
+}
+
+/// The refusal of words without a call.
+fn no_call(alloc: Global) -> Result<Error, AllocError> {
+    dpbr_command(alloc)?.error(ErrorKind::MissingSubcommand, "the words name no call")
+}
+
+/// clap's command for the program.
+#[tactic(auto, unfolding(crate::specs::Calls::dpbr_app))]
+fn dpbr_command<'a>(alloc: Global) -> Result<Command<'a>, AllocError>
+    ensures { IfOk result (λ command. app_of command ≡ dpbr_app) }
+{
+    with_runs(alloc)?.subcommand(wayon::command(alloc)?)
+}
+
+/// The command with only its subcommands on lists and runs.
+fn with_runs<'a>(alloc: Global) -> Result<Command<'a>, AllocError>
+    ensures { IfOk result (λ command. app_of command ≡ run_app) }
+{
+    with_lists(alloc)?.subcommand(run::command(alloc)?)
+}
+
+/// The command with only its subcommands on lists.
+fn with_lists<'a>(alloc: Global) -> Result<Command<'a>, AllocError>
+    ensures { IfOk result (λ command. app_of command ≡ list_app) }
+{
+    with_letters(alloc)?.subcommand(audit::command(alloc)?)
+}
+
+/// The command with only its subcommand on letters.
+fn with_letters<'a>(alloc: Global) -> Result<Command<'a>, AllocError>
+    ensures { IfOk result (λ command. app_of command ≡ letters_app) }
+{
+    let status = status::command(alloc)?;
+    Command::new(alloc, "dpbr")
+        .about("Letters, audits and runs of a bulk build of ports, and ways on from a run.")
+        .subcommand_required(true)
+        .subcommand(status)
+}

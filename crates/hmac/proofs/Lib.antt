@@ -1,3 +1,0 @@
-mod Bits
-pub mod Lengths
-mod Vectors

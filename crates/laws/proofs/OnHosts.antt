@@ -1,0 +1,161 @@
+-- A turn is one of the things that may happen to hosts.
+use Rattle.std.proofs.Common.{◌≡◌, ◌≢◌, ◌++◌, ℕ, List, [], Option, None, Some, Result, Ok, Err, slice_get, slice_set, refl, sym, ap, subst, ◌∙◌, inl, inr, ⊎_elim}
+use Rattle.turn_rules.specs.Acts.{asked_by}
+use Rattle.turn_rules.specs.declared.act.Act.{Act}
+use Rattle.turn_rules.specs.declared.fault.TurnFault.{TurnFault}
+use Rattle.turn_rules.specs.declared.fault.TurnFault.TheVariants as refused
+use Rattle.faults.specs.Bytes.{Text}
+use Rattle.laws.proofs.Turning.{asks_so, taken_so}
+use Rattle.laws.specs.Hosts.{Down, Host, Hosts, IsLeft, Up, WasOffered, sends_of}
+use Rattle.laws.specs.OnHosts.{HasOffered, HearsOffered, IsAfterTurn, TurnsAreOfARun, VouchedTurnsAreOfARun, VouchesForOffered, host_after}
+use Rattle.laws.specs.Run as run
+use Rattle.laws.specs.Run.{Run}
+use Rattle.laws.specs.Turns.{IsStepTaken}
+use Rattle.listing.specs.Tree.{Tree}
+use Rattle.node.specs.Calls.{left_by}
+use Rattle.node.specs.OnLog.{IsLogged}
+use Rattle.node.specs.State.{LoggedNode, NodeState}
+use Rattle.node.specs.Step.{Asked, Comes, Does, Takes, after}
+use Rattle.node.specs.declared.fault.NodeFault.{NodeFault}
+use Rattle.datagram_ports.specs.Calls.{Call}
+use Rattle.datagram_ports.specs.Kept.{Arrived, Parcel}
+use Rattle.lone_node.proofs.Coming.{choice_heard}
+use Rattle.lone_node.specs.Faults.{IsTurnFault}
+use Rattle.lone_node.specs.Handed.{Handed}
+use Rattle.lone_node.specs.State.{SoloState, me_of}
+use Rattle.lone_node.specs.Turn.{IsChosen, IsHeard, LeavesAtMost}
+use Rattle.lone_node.specs.Turns.{IsTurn, Outcome}
+use Rattle.stable_record.specs.History.{History}
+use Rattle.one_list.proofs.uses.HostedNodes.{set_elsewhere, set_there}
+
+module _ {D P : Type 0} (is_kept : D → Type 0) (history : D → History) (failures_of : D → ℕ)
+    (given : P → Option (List Arrived)) (offered : P → Option (List Parcel))
+    (does : P → Call → P → Type 0) (vouches : P → Text → Type 0) (tree : Tree)
+    (weights : List ℕ) (first h : Hosts) (k : ℕ) (handed : Handed) (old new : SoloState D P)
+    (left : List Text) (before : Run tree weights first h)
+    (up : slice_get h.hosts k ≡ Some (Up old.node.node))
+    (is_left : IsLeft h.offered old.node.node left) (logged : IsLogged old.node)
+    (hears : HearsOffered given does vouches handed h.offered old new) where
+  -- what has to be shown of an answer
+  abbrev Goes : Outcome → Type 0
+  Goes answer = (g : Hosts) × Run tree weights first g × IsAfterTurn h g k old new left answer
+
+  -- nothing happens to the hosts if the node is unchanged
+  stays : (answer : Outcome) → host_after new left answer ≡ Up new.node.node
+      → HasOffered old answer h.offered h.offered → new.node.node ≡ old.node.node → Goes answer
+  stays answer runs silent same = (
+    h,
+    run.stayed h h before refl,
+    record {
+      here = up ∙ ap (λ n. Some (Up n)) (sym same) ∙ ap Some (sym runs);
+      others = λ j other. refl;
+      offered = silent;
+    },
+  )
+
+  -- the hosts with another one at its place
+  abbrev with_host : Host → List Text → Hosts
+  with_host x texts = record { hosts = slice_set h.hosts k x; offered = texts }
+
+  becomes : (answer : Outcome) (x : Host) → x ≡ host_after new left answer → (texts : List Text)
+      → HasOffered old answer h.offered texts → Run tree weights first (with_host x texts)
+      → Goes answer
+  becomes answer x is texts sent run_on = (
+    with_host x texts,
+    run_on,
+    record {
+      here = set_there h.hosts k (Up old.node.node) x up ∙ ap Some is;
+      others = λ j other. set_elsewhere h.hosts k j x other;
+      offered = sent;
+    },
+  )
+
+  -- the node took its step
+  took : (act : Act) (parcels : List Parcel)
+      → IsChosen given does vouches old new handed parcels (Some (me_of old, asked_by act))
+      → IsStepTaken offered old new (asked_by act) → Goes (Ok (Some act))
+  took act parcels chosen s =
+      let step = s.step h.offered (hears (asked_by act) parcels chosen) in
+      becomes (Ok (Some act)) (Up (after old.node.node s.taken)) (ap Up (sym s.node))
+      (h.offered ++ sends_of s.taken) (s.taken, step.takes, refl)
+      (run.turned h (with_host (Up (after old.node.node s.taken)) (h.offered ++ sends_of s.taken))
+      before (record {
+        number = k;
+        node = old.node.node;
+        up = up;
+        asked = asked_by act;
+        taken = s.taken;
+        step = step;
+        hosts = refl;
+        offered = refl;
+      }))
+
+  -- or it was refused
+  by_fault : (f : TurnFault)
+      → IsTurnFault given does vouches old new handed (LeavesAtMost is_kept history old new) f
+      → Goes (Err f)
+  by_fault refused.Memory (chosen, is_chosen, same) = stays (Err refused.Memory) refl refl same
+  by_fault (refused.Node f) (asked, is_chosen, r) = ⊎_elim
+      (λ takes. becomes (Err (refused.Node f)) (Up (left_by old.node.node asked f))
+      (ap Up (sym r.leaves)) h.offered refl
+      (run.refused h (with_host (Up (left_by old.node.node asked f)) h.offered) before (record {
+        number = k;
+        node = old.node.node;
+        up = up;
+        asked = asked;
+        fault = f;
+        asks = asks_so given offered does vouches handed (LeavesAtMost is_kept history old new) old
+            new logged asked [] is_chosen;
+        came = hears asked [] is_chosen;
+        refuses = takes;
+        hosts = refl;
+        offered = refl;
+      })))
+      (λ full. stays (Err (refused.Node f)) refl refl
+      (r.leaves ∙ ap (left_by old.node.node asked) full.0))
+      r.cause
+  by_fault (refused.Down j) down =
+      becomes (Err (refused.Down j)) (Down left) refl h.offered refl
+      (run.ended h (with_host (Down left) h.offered) before (record {
+        number = k;
+        node = old.node.node;
+        up = up;
+        left = left;
+        is_left = is_left;
+        hosts = refl;
+        offered = refl;
+      }))
+  by_fault refused.NotSent bad = absurd bad
+  by_fault refused.NotFresh bad = absurd bad
+
+  pub goes_on : (answer : Outcome)
+      → IsTurn is_kept history failures_of given offered does vouches handed old new answer
+      → Goes answer
+  goes_on (Ok (Some act)) t = took act _ (t.done.taken).chosen
+      (taken_so given offered does vouches handed (LeavesAtMost is_kept history old new) old new
+      logged (Ok (Some act)) t.done.taken)
+  goes_on (Ok None) t = stays (Ok None) refl refl (ap (λ (n : LoggedNode D). n.node) (t.done.same).0)
+  goes_on (Err f) t = by_fault f t.refuses.refused
+
+module _ {D P : Type 0} (is_kept : D → Type 0) (history : D → History) (failures_of : D → ℕ)
+    (given : P → Option (List Arrived)) (offered : P → Option (List Parcel))
+    (does : P → Call → P → Type 0) (vouches : P → Text → Type 0) where
+  pub turns_are_of_a_run :
+      TurnsAreOfARun is_kept history failures_of given offered does vouches
+  turns_are_of_a_run tree weights first h k handed old new left answer before up is_left turn hears =
+      goes_on is_kept history failures_of given offered does vouches tree weights first h k
+      handed old new left before up is_left turn.log.logged hears answer turn
+
+  -- bytes that arrived were vouched for, so they were offered
+  was_offered : (texts : List Text) (port : P) → VouchesForOffered vouches port texts
+      → (asked : Asked) → IsHeard vouches port asked → WasOffered texts asked
+  was_offered texts port all (Comes text) heard = all text heard
+  was_offered texts port all (Does input) heard = tt
+
+  pub vouched_turns_are_of_a_run :
+      VouchedTurnsAreOfARun is_kept history failures_of given offered does vouches
+  vouched_turns_are_of_a_run tree weights first h k handed old new left answer before up is_left turn
+      all =
+      turns_are_of_a_run tree weights first h k handed old new left answer before up is_left turn
+      (λ asked parcels chosen. was_offered h.offered new.port all asked
+      (choice_heard given does vouches old new handed parcels asked chosen))

@@ -1,0 +1,100 @@
+-- Laws: turns of crate `solo` are among the things that may happen to hosts.
+use Rattle.std.specs.Prelude.{◌≡◌, ◌≢◌, ◌++◌, ℕ, true, List, [], Option, None, Some, Ok, Err, Contains, IfOk, slice_get}
+use Rattle.turn_rules.specs.Acts.{asked_by}
+use Rattle.turn_rules.specs.Choice.{Chosen}
+use Rattle.turn_rules.specs.declared.fault.TurnFault.TheVariants as refused
+use Rattle.faults.specs.Bytes.{Text}
+use Rattle.laws.specs.Hosts.{Down, Host, Hosts, IsLeft, Up, WasOffered, sends_of}
+use Rattle.laws.specs.Run.{Run}
+use Rattle.listing.specs.Tree.{Tree}
+use Rattle.node.specs.Step.{Asked, Taken, Takes}
+use Rattle.datagram_ports.specs.Calls.{Call}
+use Rattle.datagram_ports.specs.Kept.{Arrived, Parcel}
+use Rattle.lone_node.specs.Handed.{Handed}
+use Rattle.lone_node.specs.State.{SoloState, me_of}
+use Rattle.lone_node.specs.Turn.{IsChosen}
+use Rattle.lone_node.specs.Turns.{IsTurn, Outcome}
+use Rattle.stable_record.specs.History.{History}
+
+-- If the turn's choice is to take bytes, those bytes were offered before.
+abbrev pub HearsOffered : {D P : Type 0} → (P → Option (List Arrived))
+    → (P → Call → P → Type 0) → (P → Text → Type 0) → Handed → List Text → SoloState D P
+    → SoloState D P → Type 0
+HearsOffered given does vouches handed offered old new =
+    (asked : Asked) (parcels : List Parcel)
+    → IsChosen given does vouches old new handed parcels (Some (me_of old, asked))
+    → WasOffered offered asked
+
+-- All texts that the port vouches for were offered before: they were sent in this run.
+abbrev pub VouchesForOffered : {P : Type 0} → (P → Text → Type 0) → P → List Text → Type 0
+VouchesForOffered vouches port offered = (text : Text) → vouches port text → Contains offered text
+
+-- What runs on the host after a turn with this answer: the node as the turn left it, or nothing if
+-- its device failed. In that case its log has these texts.
+abbrev pub host_after : {D P : Type 0} → SoloState D P → List Text → Outcome → Host
+host_after new left (Ok act) = Up new.node.node
+host_after new left (Err refused.Memory) = Up new.node.node
+host_after new left (Err (refused.Node f)) = Up new.node.node
+host_after new left (Err (refused.Down k)) = Down left
+host_after new left (Err refused.NotSent) = Up new.node.node
+host_after new left (Err refused.NotFresh) = Up new.node.node
+
+-- What the turn offers: what the node's step sends, if it took one.
+abbrev pub HasOffered : {D P : Type 0} → SoloState D P → Outcome → List Text → List Text → Type 0
+HasOffered state (Ok (Some act)) old new =
+    (t : Taken) × Takes state.node.node (asked_by act) (Ok t) × (new ≡ old ++ sends_of t)
+HasOffered state (Ok None) old new = new ≡ old
+HasOffered state (Err f) old new = new ≡ old
+
+-- The hosts after a turn of the node with this number: its own host is as the turn left it, the
+-- others are unchanged, and what the turn offers is appended.
+pub record IsAfterTurn {D P : Type 0} (h g : Hosts) (k : ℕ) (old new : SoloState D P)
+    (left : List Text) (answer : Outcome) : Type 0 where
+  pub here : slice_get g.hosts k ≡ Some (host_after new left answer)
+  pub others : (j : ℕ) → j ≢ k → slice_get g.hosts j ≡ slice_get h.hosts j
+  pub offered : HasOffered old answer h.offered g.offered
+
+-- Law: a turn of a running node is one of the things that may happen to hosts, if bytes that it
+-- takes were offered before. If its device failed, this holds for whatever a node that ends may
+-- leave on its log.
+abbrev pub TurnsAreOfARun : {D P : Type 0} → (D → Type 0) → (D → History) → (D → ℕ)
+    → (P → Option (List Arrived)) → (P → Option (List Parcel)) → (P → Call → P → Type 0)
+    → (P → Text → Type 0) → Type 0
+TurnsAreOfARun {D} {P} is_kept history failures_of given offered does vouches =
+    (tree : Tree) (weights : List ℕ) (first h : Hosts) (k : ℕ) (handed : Handed)
+    (old new : SoloState D P) (left : List Text) (answer : Outcome) → Run tree weights first h
+    → slice_get h.hosts k ≡ Some (Up old.node.node) → IsLeft h.offered old.node.node left
+    → IsTurn is_kept history failures_of given offered does vouches handed old new answer
+    → HearsOffered given does vouches handed h.offered old new
+    → (g : Hosts) × Run tree weights first g × IsAfterTurn h g k old new left answer
+
+-- Law: this also holds if all texts that the port vouches for were offered before.
+abbrev pub VouchedTurnsAreOfARun : {D P : Type 0} → (D → Type 0) → (D → History) → (D → ℕ)
+    → (P → Option (List Arrived)) → (P → Option (List Parcel)) → (P → Call → P → Type 0)
+    → (P → Text → Type 0) → Type 0
+VouchedTurnsAreOfARun {D} {P} is_kept history failures_of given offered does vouches =
+    (tree : Tree) (weights : List ℕ) (first h : Hosts) (k : ℕ) (handed : Handed)
+    (old new : SoloState D P) (left : List Text) (answer : Outcome) → Run tree weights first h
+    → slice_get h.hosts k ≡ Some (Up old.node.node) → IsLeft h.offered old.node.node left
+    → IsTurn is_kept history failures_of given offered does vouches handed old new answer
+    → VouchesForOffered vouches new.port h.offered
+    → (g : Hosts) × Run tree weights first g × IsAfterTurn h g k old new left answer
+
+-- The turn did nothing: the node took no step and is unchanged, and the port was only asked as for
+-- a choice and was offered nothing.
+pub record HasOnlyAsked {D P : Type 0} (given : P → Option (List Arrived))
+    (does : P → Call → P → Type 0) (vouches : P → Text → Type 0) (handed : Handed)
+    (old new : SoloState D P) (answer : Outcome) : Type 0 where
+  pub nothing : IfOk answer (λ o. o ≡ None)
+  pub node : new.node.node ≡ old.node.node
+  pub asked : (chosen : Chosen) × IsChosen given does vouches old new handed [] chosen
+
+-- Law: a turn of a stopped node does nothing. So its host stays down, with the same log.
+abbrev pub StoppedNodesStay : {D P : Type 0} → (D → Type 0) → (D → History) → (D → ℕ)
+    → (P → Option (List Arrived)) → (P → Option (List Parcel)) → (P → Call → P → Type 0)
+    → (P → Text → Type 0) → Type 0
+StoppedNodesStay {D} {P} is_kept history failures_of given offered does vouches =
+    (handed : Handed) (old new : SoloState D P) (answer : Outcome)
+    → old.node.node.stopped ≡ true
+    → IsTurn is_kept history failures_of given offered does vouches handed old new answer
+    → HasOnlyAsked given does vouches handed old new answer

@@ -1,0 +1,26 @@
+//! Laws: the turns that a program takes are among the things that may happen to hosts.
+ghost use Rattle.laws.specs.OnHosts.{StoppedNodesStay, TurnsAreOfARun, VouchedTurnsAreOfARun};
+
+use datagram_ports::Port;
+use stable_record::Disk;
+
+/// Law: a turn of the node on one of the hosts, as `Solo::turn` promises it, is one of the things
+/// that may happen to hosts. The condition is that bytes which it takes were offered before. The
+/// turn is a step whose sends were offered, a refusal, the node's end if its device failed, or
+/// nothing. So `lone_nodes_make_a_world` covers any list of turns.
+pub fn turns_are_of_a_run<D: Disk, P: Port>()
+    ensures { TurnsAreOfARun D.is_kept D.history D.failures_of P.given P.offered P.does P.vouches }
+{}
+
+/// Law: this also holds if the node's port vouches only for what was offered before.
+pub fn vouched_turns_are_of_a_run<D: Disk, P: Port>()
+    ensures { VouchedTurnsAreOfARun D.is_kept D.history D.failures_of P.given P.offered P.does
+        P.vouches }
+{}
+
+/// Law: a turn of a stopped node takes no step, leaves the node as it was, and offers nothing. So
+/// its host stays as it is, however many turns a program takes.
+pub fn stopped_nodes_stay<D: Disk, P: Port>()
+    ensures { StoppedNodesStay D.is_kept D.history D.failures_of P.given P.offered P.does
+        P.vouches }
+{}

@@ -1,4 +1,0 @@
-use Rattle.log_rows.proofs.real_file.append_to_file.Given as goal
-
-abbrev pub ghost-new : goal.ghost-new
-ghost-new g a = g.past

@@ -1,0 +1,110 @@
+-- A turn's choice, by the case that applies.
+use Rattle.std.proofs.Common.{◌≡◌, ◌++◌, ℕ, List, [], ◌∷◌, Option, None, Some, Ok, length, refl, sym, ap, subst, ◌∙◌}
+use Rattle.std.proofs.lemmas.List.{append-nil}
+use Rattle.std.specs.Prelude.{is_some}
+use Rattle.turn_rules.proofs.SomeOwn.{some_choice}
+use Rattle.turn_rules.specs.Choice.{Chosen, Here, IsChoice, IsFirstOwn, IsGivenOr, comes_to, first_job, in_turn}
+use Rattle.faults.specs.Answers.{option_or}
+use Rattle.faults.specs.Bytes.{Text}
+use Rattle.node.specs.Step.{Asked}
+use Rattle.turn_rules.specs.Calls.{came_by}
+use Rattle.datagram_ports.specs.Calls.{Call, WentThrough}
+use Rattle.datagram_ports.specs.Kept.{Arrived, GoesOnBy}
+use Rattle.protocol.specs.Given.{Given}
+use Rattle.protocol.specs.Member.{IsMember}
+use Rattle.protocol.specs.State.{State}
+use Rattle.lone_node.specs.Handed.{AllBuilds}
+use Rattle.lone_node.specs.State.{SoloState, only}
+use Rattle.lone_node.specs.Turn.{IsChosen, IsVouchedFor, looked_for, received_by}
+use Rattle.lone_node.specs.inside.Turning.{HasCome}
+
+-- a record continues by nothing
+pub goes_nowhere : {X : Type 0} (o : Option (List X)) → GoesOnBy [] o o
+goes_nowhere None = tt
+goes_nowhere (Some xs) = sym (append-nil xs)
+
+-- appending nothing and then these is appending these
+pub goes_on : {X : Type 0} (more : List X) (a b c : Option (List X)) → GoesOnBy [] a b
+    → GoesOnBy more b c → GoesOnBy more a c
+goes_on more a b None nothing goes = tt
+goes_on more a None (Some zs) nothing goes = absurd goes
+goes_on more None (Some ys) (Some zs) nothing goes = absurd nothing
+goes_on more (Some xs) (Some ys) (Some zs) nothing goes =
+    goes ∙ ap (λ l. l ++ more) (nothing ∙ append-nil xs)
+
+-- and the other way round
+pub goes_no_more : {X : Type 0} (more : List X) (a b c : Option (List X)) → GoesOnBy more a b
+    → GoesOnBy [] b c → GoesOnBy more a c
+goes_no_more more a b None goes nothing = tt
+goes_no_more more a None (Some zs) goes nothing = absurd nothing
+goes_no_more more None (Some ys) (Some zs) goes nothing = absurd goes
+goes_no_more more (Some xs) (Some ys) (Some zs) goes nothing = nothing ∙ append-nil ys ∙ goes
+
+module _ {D P : Type 0} (given : P → Option (List Arrived)) (does : P → Call → P → Type 0)
+    (vouches : P → Text → Type 0) (old new : SoloState D P) (builds : Given) where
+  abbrev pub here : Here
+  here = only old.node.node
+
+  abbrev pub count : ℕ
+  count = length old.node.node.member.weights
+
+  -- It is the choice, and nothing was offered yet.
+  abbrev pub Chooses : Chosen → Type 0
+  Chooses = IsChosen given does vouches old new (AllBuilds builds) []
+
+  -- the answer to a job
+  pub by_job : (x : ℕ × Asked) → first_job here count builds ≡ Some x
+      → new.port ≡ old.port → Chooses (Some x)
+  by_job x job still = record {
+    answer = Ok None;
+    looked = subst (λ b. GoesOnBy (looked_for b None) (given old.port) (given new.port))
+        (sym (ap is_some job))
+        (subst (λ p. GoesOnBy [] (given old.port) (given p)) (sym still)
+        (goes_nowhere (given old.port)));
+    between = old.port;
+    received = subst (λ b. WentThrough does old.port (received_by b (Ok None)) old.port)
+        (sym (ap is_some job)) refl;
+    sent = ([], refl, still);
+    vouched = tt;
+    choice = subst (λ j. IsGivenOr (option_or j (comes_to here None)) (Some x)
+        (IsFirstOwn here count old.pending (in_turn old.pending.next count) (Some x))) (sym job)
+        refl;
+  }
+
+  module _ (no_job : first_job here count builds ≡ None) (came : Arrived)
+      (goes : HasCome given does vouches old.port new.port came) where
+    -- the choice if this was received
+    by_came : (c : Chosen) → IsChoice here count old.pending builds came c → Chooses c
+    by_came c choice = record {
+      answer = goes.answer;
+      looked = subst (λ b. GoesOnBy (looked_for b (came_by goes.answer)) (given old.port)
+          (given new.port)) (sym (ap is_some no_job))
+          (subst (λ a. GoesOnBy (a ∷ []) (given old.port) (given new.port)) (sym goes.gave)
+          goes.kept);
+      between = new.port;
+      received = subst (λ b. WentThrough does old.port (received_by b goes.answer) new.port)
+          (sym (ap is_some no_job)) (new.port, goes.call, refl);
+      sent = ([], refl, refl);
+      vouched = subst (IsVouchedFor vouches new.port) (sym goes.gave) goes.vouched;
+      choice = subst (λ a. IsChoice here count old.pending builds a c) (sym goes.gave) choice;
+    }
+
+    -- the received datagram is taken
+    pub by_arrival : (x : ℕ × Asked) → comes_to here came ≡ Some x → Chooses (Some x)
+    by_arrival x comes = by_came (Some x) (subst (λ g. IsGivenOr g (Some x)
+        (IsFirstOwn here count old.pending (in_turn old.pending.next count) (Some x)))
+        (sym (ap (λ j. option_or j (comes_to here came)) no_job ∙ comes)) refl)
+
+    -- what the node does on its own initiative
+    pub by_own : (c : Chosen) → comes_to here came ≡ None
+        → IsFirstOwn here count old.pending (in_turn old.pending.next count) c → Chooses c
+    by_own c comes own = by_came c (subst (λ g. IsGivenOr g c
+        (IsFirstOwn here count old.pending (in_turn old.pending.next count) c))
+        (sym (ap (λ j. option_or j (comes_to here came)) no_job ∙ comes)) own)
+
+    -- there is a choice
+    pub by_some : ((k : ℕ) (s : State) → here k ≡ Some s → IsMember s)
+        → (c : Chosen) × Chooses c
+    by_some are =
+        let some = some_choice here count old.pending builds came are in
+        (some.0, by_came some.0 some.1)

@@ -1,0 +1,251 @@
+-- What was chosen is prepared, or there is a reason why it isn't.
+use Rattle.std.proofs.Common.{◌≡◌, ◌≢◌, ◌==◌, ℕ, Bool, true, false, List, [], Option, None, Some, Result, Ok, Err, IfErr, IfOk, Vec, length, if◌then◌else◌, refl, sym, ap, subst, ◌∙◌, inl, inr}
+use Rattle.std.specs.List.{range_with_len}
+use Rattle.std.specs.Prelude.{option_map}
+use Rattle.std.specs.declared.alloc.Global.{Global}
+use Rattle.turn_rules.specs.Choice.{Chosen, IsOwnIf, comes_to, first_job, in_turn}
+use Rattle.turn_rules.specs.declared.fault.TurnFault.{TurnFault}
+use Rattle.turn_rules.specs.declared.fault.TurnFault.TheVariants as refused
+use Rattle.faults.specs.Bytes.{Text}
+use Rattle.node.specs.Calls.{left_by}
+use Rattle.node.specs.State.{LoggedNode, NodeState}
+use Rattle.node.specs.Step.{Comes, Does}
+use Rattle.node.specs.declared.fault.NodeFault.{NodeFault}
+use Rattle.node.specs.declared.fault.NodeFault.TheVariants as fault
+use Rattle.turn_rules.specs.CausedSteps.{IsNoPart, IsPart}
+use Rattle.turn_rules.specs.declared.caused_step.CausedStep.{CausedStep}
+use Rattle.datagram_ports.specs.Calls.{Call}
+use Rattle.datagram_ports.specs.Kept.{Arrived}
+use Rattle.protocol.specs.Given.{Given}
+use Rattle.protocol.specs.Member.{IsMember}
+use Rattle.protocol.specs.State.{State}
+use Rattle.protocol.specs.declared.input.Input.{Input}
+use Rattle.lone_node.proofs.ByCase.{by_arrival, by_job, by_own, by_some}
+use Rattle.lone_node.proofs.Only.{in_range, in_turns, none_among, none_does, own_answer, some_among, this_one_does}
+use Rattle.lone_node.proofs.Refused.{stays, told_is}
+use Rattle.lone_node.specs.Faults.{IsTurnFault}
+use Rattle.lone_node.specs.Handed.{AllBuilds}
+use Rattle.lone_node.specs.State.{SoloState, member_up, only}
+use Rattle.lone_node.specs.Turn.{IsChosen}
+use Rattle.lone_node.specs.inside.Turning.{HasChosen, HasCome, IsMade, IsNotTaken, told}
+
+-- the node here has a valid member
+pub members_here : (n : NodeState) → IsMember n.member → (k : ℕ) (s : State) → only n k ≡ Some s
+    → IsMember s
+members_here n is k s at = by (k == n.member.me) n.stopped at
+  where
+    by : (b c : Bool) → (if b then (if c then None else Some n.member) else None) ≡ Some s
+        → IsMember s
+    by true true at = absurd (let no : ◌≡◌ {A = Option State} None (Some s) = at in cc)
+    by true false at =
+        let known : ◌≡◌ {A = Option State} (Some n.member) (Some s) = at in
+        let same : n.member ≡ s = cc in
+        subst IsMember same is
+    by false c at = absurd (let no : ◌≡◌ {A = Option State} None (Some s) = at in cc)
+
+-- what a receive returned
+abbrev pub came_of : Option (ℕ × Vec ℕ Global) → Arrived
+came_of o = option_map (λ d. (d.0, d.1.items)) o
+
+-- if nothing was prepared, the choice was to do nothing
+pub nothing_taken : {D : Type 0} (m : LoggedNode D) (chosen : Chosen) → IsMade m chosen None
+    → chosen ≡ None
+nothing_taken m None made = refl
+nothing_taken m (Some x) made = absurd made
+
+-- what holds of an unchanged node holds of the node before
+module _ {D : Type 0} (m n : LoggedNode D) (stays : m ≡ n) (new : LoggedNode D)
+    (came : Arrived) where
+  pub taken_made : (o : Option CausedStep)
+      → (new ≡ m) × IsMade m (comes_to (only m.node) came) o
+      → (new ≡ n) × IsMade n (comes_to (only n.node) came) o
+  taken_made o (same, made) =
+      (same ∙ stays, subst (λ x. IsMade x (comes_to (only x.node) came) o) stays made)
+
+  pub not_taken : (f g : TurnFault) → g ≡ f
+      → IsNotTaken m new (comes_to (only m.node) came) f
+      → IsNotTaken n new (comes_to (only n.node) came) g
+  not_taken f g same refuses =
+      subst (IsNotTaken n new (comes_to (only n.node) came)) (sym same)
+      (subst (λ x. IsNotTaken x new (comes_to (only x.node) came) f) stays refuses)
+
+module _ {D P : Type 0} (given : P → Option (List Arrived)) (does : P → Call → P → Type 0)
+    (vouches : P → Text → Type 0) (old new : SoloState D P) (builds : Given)
+    (is : IsMember old.node.node.member) where
+  abbrev n : NodeState
+  n = old.node.node
+
+  abbrev me : ℕ
+  me = n.member.me
+
+  abbrev count : ℕ
+  count = length n.member.weights
+
+  abbrev HasMade : Option CausedStep → Type 0
+  HasMade = HasChosen given does vouches old new (AllBuilds builds)
+
+  abbrev IsFault : TurnFault → Type 0
+  IsFault = IsTurnFault given does vouches old new (AllBuilds builds) (λ asked. ⊥)
+
+  -- ---- its job
+
+  first_is : (input : Input) → own_answer n builds ≡ Some input
+      → first_job (only n) count builds ≡ Some (me, Does input)
+  first_is input e = some_among n builds input e (range_with_len 0 count)
+      (in_range me count is.one_of_them)
+
+  pub job_made : new.port ≡ old.port → new.node ≡ old.node → (r : CausedStep)
+      → IsPart old.node (own_answer n builds) (Some r) → HasMade (Some r)
+  job_made still same r part = by (own_answer n builds) refl part
+    where
+      by : (o : Option Input) → own_answer n builds ≡ o → IsPart old.node o (Some r)
+          → HasMade (Some r)
+      by None e part = absurd part
+      by (Some input) e part = record {
+        chosen = Some (me, Does input);
+        is_chosen = by_job given does vouches old new builds (me, Does input) (first_is input e) still;
+        made = (refl, part);
+        same = same;
+      }
+
+  pub job_wants : new.port ≡ old.port → new.node.node ≡ old.node.node → (f : TurnFault)
+      → f ≡ refused.Memory → own_answer n builds ≢ None → IsFault f
+  job_wants still same f memory some =
+      subst IsFault (sym memory) (by (own_answer n builds) refl)
+    where
+      by : (o : Option Input) → own_answer n builds ≡ o → IsFault refused.Memory
+      by None e = absurd (some e)
+      by (Some input) e = (
+        Some (me, Does input),
+        by_job given does vouches old new builds (me, Does input) (first_is input e) still,
+        same,
+      )
+
+  -- no job was answered
+  no_job : IsPart old.node (own_answer n builds) None → first_job (only n) count builds ≡ None
+  no_job part = by (own_answer n builds) refl part
+    where
+      by : (o : Option Input) → own_answer n builds ≡ o → IsPart old.node o None
+          → first_job (only n) count builds ≡ None
+      by None e part = none_among n builds e (range_with_len 0 count)
+      by (Some input) e part = absurd part
+
+  module _ (none : IsPart old.node (own_answer n builds) None) (came : Arrived)
+      (goes : HasCome given does vouches old.port new.port came) where
+    -- memory ran out, whatever the choice was
+    wants : new.node.node ≡ old.node.node → (f : TurnFault) → f ≡ refused.Memory → IsFault f
+    wants same f memory =
+        let some = by_some given does vouches old new builds (no_job none) came goes
+        (members_here n is) in
+        subst IsFault (sym memory) (some.0, some.1, same)
+
+    -- ---- what was received
+
+    pub arrival_made : new.node ≡ old.node → (r : CausedStep)
+        → IsMade old.node (comes_to (only n) came) (Some r) → HasMade (Some r)
+    arrival_made same r made = by (comes_to (only n) came) refl made
+      where
+        by : (c : Chosen) → comes_to (only n) came ≡ c → IsMade old.node c (Some r)
+            → HasMade (Some r)
+        by None e made = absurd made
+        by (Some x) e made = record {
+          chosen = Some x;
+          is_chosen = by_arrival given does vouches old new builds (no_job none) came goes x e;
+          made = made;
+          same = same;
+        }
+
+    pub arrival_fault : (f : TurnFault)
+        → IsNotTaken old.node new.node (comes_to (only n) came) f → IsFault f
+    arrival_fault f t = elim t.cause [
+      | inl memory ↦ no_memory memory
+      | inr takes ↦ elim (told_is t.refusal) [
+        | inl memory ↦ no_memory memory
+        | inr node ↦ subst IsFault (sym (t.tells ∙ node)) (
+          Comes t.text,
+          by_arrival given does vouches old new builds (no_job none) came goes (me, Comes t.text) t.comes,
+          record { cause = inl takes; leaves = t.leaves },
+        )
+      ]
+    ]
+      where
+        no_memory : t.refusal ≡ fault.Memory → IsFault f
+        no_memory memory = wants (t.leaves ∙ ap (left_by n (Comes t.text)) memory) f
+            (t.tells ∙ ap told memory)
+
+    -- ---- what it does on its own initiative
+
+    module _ (nothing : IsMade old.node (comes_to (only n) came) None) where
+      -- The node does this on its own initiative, if anything.
+      abbrev pub DoesOwn : Option Input → Type 0
+      DoesOwn own = IsOwnIf (only n) count old.pending me (member_up n) own
+
+      own_chosen : (input : Input) → DoesOwn (Some input)
+          → IsChosen given does vouches old new (AllBuilds builds) [] (Some (me, Does input))
+      own_chosen input own =
+          by_own given does vouches old new builds (no_job none) came goes (Some (me, Does input))
+          (nothing_taken old.node (comes_to (only n) came) nothing)
+          (this_one_does n count old.pending input own (in_turn old.pending.next count)
+          (in_turns me old.pending.next count is.one_of_them))
+
+      pub own_made : new.node ≡ old.node → (o : Option CausedStep)
+          → ((own : Option Input) × DoesOwn own × IsPart old.node own o) → HasMade o
+      own_made same None (None, own, part) = record {
+        chosen = None;
+        is_chosen = by_own given does vouches old new builds (no_job none) came goes None
+            (nothing_taken old.node (comes_to (only n) came) nothing)
+            (none_does n count old.pending own (in_turn old.pending.next count));
+        made = tt;
+        same = same;
+      }
+      own_made same (Some r) (None, own, part) = absurd part
+      own_made same None (Some input, own, part) = absurd part
+      own_made same (Some r) (Some input, own, part) = record {
+        chosen = Some (me, Does input);
+        is_chosen = own_chosen input own;
+        made = (refl, part);
+        same = same;
+      }
+
+      pub own_fault : new.node.node ≡ n → (f : TurnFault)
+          → ((own : Option Input) × (g : NodeFault) × DoesOwn own × (f ≡ told g)
+          × IsNoPart old.node own g)
+          → IsFault f
+      own_fault same f (own, g, does, tells, inl memory) =
+          wants same f (tells ∙ ap told memory)
+      own_fault same f (own, g, does, tells, inr (input, some, takes)) = elim (told_is g) [
+        | inl memory ↦ wants same f (tells ∙ ap told memory)
+        | inr node ↦ subst IsFault (sym (tells ∙ node)) (
+          Does input,
+          own_chosen input (subst DoesOwn some does),
+          record { cause = inl takes; leaves = same ∙ sym (stays n input g takes) },
+        )
+      ]
+
+      -- ---- the results for a node and a number that are equal to these
+
+      -- Node m does this on its own initiative as number k, if anything.
+      abbrev DoesOwnAs : LoggedNode D → ℕ → Option Input → Type 0
+      DoesOwnAs m k own = IsOwnIf (only m.node) (length m.node.member.weights) old.pending k
+          (member_up m.node) own
+
+      module _ (m : LoggedNode D) (stays : m ≡ old.node) (k : ℕ) (this : k ≡ me) where
+        does_own : (own : Option Input) → DoesOwnAs m k own → DoesOwn own
+        does_own own does =
+            subst (λ j. DoesOwnAs old.node j own) this (subst (λ x. DoesOwnAs x k own) stays does)
+
+        pub own_answers : new.node ≡ m → (answer : Result (Option CausedStep) TurnFault)
+            → IfOk answer (λ o. (own : Option Input) × DoesOwnAs m k own × IsPart m own o)
+            → IfOk answer HasMade
+        own_answers same (Ok o) (own, does, part) = own_made (same ∙ stays) o
+            (own, does_own own does, subst (λ x. IsPart x own o) stays part)
+        own_answers same (Err f) has = tt
+
+        pub own_faults : new.node ≡ m → (answer : Result (Option CausedStep) TurnFault)
+            → IfErr answer (λ f. (own : Option Input) × (g : NodeFault) × DoesOwnAs m k own
+            × (f ≡ told g) × IsNoPart m own g)
+            → IfErr answer IsFault
+        own_faults same (Ok o) has = tt
+        own_faults same (Err f) (own, g, does, tells, none) =
+            own_fault (ap (λ x. x.node) (same ∙ stays)) f
+            (own, g, does_own own does, tells, subst (λ x. IsNoPart x own g) stays none)

@@ -1,0 +1,235 @@
+-- What a receive returned, and what is chosen because of it.
+use Rattle.std.proofs.Common.{◌≡◌, ℕ, List, [], ◌∷◌, Option, None, Some, Result, Ok, Err, IfOk, IfSome, Vec, length, refl, sym, subst}
+use Rattle.std.specs.List.{range_with_len}
+use Rattle.std.specs.Prelude.{option_and_then, option_map}
+use Rattle.std.specs.declared.alloc.Global.{Global}
+use Rattle.turn_rules.specs.Answering.{answer_of}
+use Rattle.turn_rules.specs.Choice.{Chosen, Here, IsChoice, IsFirstOwn, IsGivenOr, comes_to, first_job, in_turn, job_at}
+use Rattle.turn_rules.specs.Pending.{Pending, above_at}
+use Rattle.faults.specs.Answers.{first_given, option_or}
+use Rattle.faults.specs.Bytes.{Text}
+use Rattle.node.specs.Step.{Asked, Comes, Does}
+use Rattle.turn_rules.specs.Calls.{came_by}
+use Rattle.datagram_ports.specs.Calls.{Call, Received, told}
+use Rattle.datagram_ports.specs.Kept.{Arrived, GoesOnBy, Parcel, arrived}
+use Rattle.datagram_ports.specs.declared.fault.PortFault.{PortFault}
+use Rattle.protocol.specs.Given.{Given}
+use Rattle.protocol.specs.State.{State}
+use Rattle.protocol.specs.declared.input.Input.{Input}
+use Rattle.turn_rules.specs.Live.{answer_if, asked_for, first_answer, first_going, going_on, left_to_do, live_choice, wished}
+use Rattle.turn_rules.specs.declared.wish.Wish.{Wish}
+use Rattle.lone_node.specs.Handed.{AllBuilds, Handed, IsChoiceBy, SoFar}
+use Rattle.lone_node.specs.State.{SoloState, me_of, only}
+use Rattle.lone_node.specs.Turn.{IsChosen, IsHeard, IsVouchedFor}
+use Rattle.lone_node.specs.inside.Turning.{HasCome}
+
+-- ---- what a receive returned
+
+-- the answer of a receive
+abbrev pub Answer : Type 0
+Answer = Result (Option (ℕ × Vec ℕ Global)) PortFault
+
+came_is : (r : Answer) → came_by (told r) ≡ arrived r
+came_is (Ok None) = refl
+came_is (Ok (Some d)) = refl
+came_is (Err f) = refl
+
+module _ {P : Type 0} (given : P → Option (List Arrived)) (does : P → Call → P → Type 0)
+    (vouches : P → Text → Type 0) (old new : P) where
+  vouched_is : (r : Answer) → IfOk r (λ o. IfSome o (λ d. vouches new d.1.items))
+      → IsVouchedFor vouches new (arrived r)
+  vouched_is (Ok None) is = tt
+  vouched_is (Ok (Some d)) is = is
+  vouched_is (Err f) is = tt
+
+  come_by : (r : Answer) → GoesOnBy (arrived r ∷ []) (given old) (given new)
+      → does old (Received (told r)) new
+      → IfOk r (λ o. IfSome o (λ d. vouches new d.1.items))
+      → HasCome given does vouches old new (arrived r)
+  come_by r goes done vouched = record {
+    answer = told r;
+    gave = came_is r;
+    kept = goes;
+    call = done;
+    vouched = vouched_is r vouched;
+  }
+
+  -- it succeeded
+  pub has_come : (r : Answer) (o : Option (ℕ × Vec ℕ Global)) → r ≡ Ok o
+      → GoesOnBy (arrived r ∷ []) (given old) (given new) → does old (Received (told r)) new
+      → IfOk r (λ o. IfSome o (λ d. vouches new d.1.items))
+      → HasCome given does vouches old new (option_map (λ d. (d.0, d.1.items)) o)
+  has_come (Ok None) None is goes done vouched = come_by (Ok None) goes done vouched
+  has_come (Ok None) (Some d) is goes done vouched =
+      absurd (let no : ◌≡◌ {A = Answer} (Ok None) (Ok (Some d)) = is in cc)
+  has_come (Ok (Some d)) None is goes done vouched =
+      absurd (let no : ◌≡◌ {A = Answer} (Ok (Some d)) (Ok None) = is in cc)
+  has_come (Ok (Some d)) (Some e) is goes done vouched =
+      let known : ◌≡◌ {A = Answer} (Ok (Some d)) (Ok (Some e)) = is in
+      let same : d ≡ e = cc in
+      subst (λ x. HasCome given does vouches old new (Some (x.0, x.1.items))) same
+      (come_by (Ok (Some d)) goes done vouched)
+  has_come (Err f) o is goes done vouched =
+      absurd (let no : ◌≡◌ {A = Answer} (Err f) (Ok o) = is in cc)
+
+  -- it failed
+  pub none_came : (r : Answer) (f : PortFault) → r ≡ Err f
+      → GoesOnBy (arrived r ∷ []) (given old) (given new) → does old (Received (told r)) new
+      → HasCome given does vouches old new None
+  none_came (Ok o) f is goes done =
+      absurd (let no : ◌≡◌ {A = Answer} (Ok o) (Err f) = is in cc)
+  none_came (Err g) f is goes done = come_by (Err g) goes done tt
+
+-- ---- what is chosen
+
+-- The bytes that a node is asked to take are the received ones.
+abbrev pub FromCame : Arrived → Asked → Type 0
+FromCame came (Comes text) = (k : ℕ) × (came ≡ Some (k, text))
+FromCame came (Does input) = Prim.Unit {0}
+
+-- so the port vouches for them
+pub is_heard : {P : Type 0} (vouches : P → Text → Type 0) (port : P) (came : Arrived)
+    (asked : Asked) → FromCame came asked → IsVouchedFor vouches port came
+    → IsHeard vouches port asked
+is_heard vouches port came (Comes text) (k, is) vouched =
+    subst (IsVouchedFor vouches port) is vouched
+is_heard vouches port came (Does input) is vouched = tt
+
+module _ (here : Here) (came : Arrived) where
+  -- what the first of these gives is an input of the node's own
+  each_does : (f : ℕ → Option Input) (ks : List ℕ) (x : ℕ × Asked)
+      → first_given (λ k. option_map (λ input. (k, Does input)) (f k)) ks ≡ Some x
+      → FromCame came x.1
+  each_does f [] x is = absurd (let no : ◌≡◌ {A = Chosen} None (Some x) = is in cc)
+  each_does f (k ∷ ks) x is = by (f k) is (each_does f ks x)
+    where
+      by : (o : Option Input)
+          → option_or (option_map (λ (input : Input). (k, Does input)) o)
+          (first_given (λ k. option_map (λ input. (k, Does input)) (f k)) ks) ≡ Some x
+          → (first_given (λ k. option_map (λ input. (k, Does input)) (f k)) ks ≡ Some x
+          → FromCame came x.1)
+          → FromCame came x.1
+      by None is later = later is
+      by (Some input) is later =
+          let known : ◌≡◌ {A = Chosen} (Some (k, Does input)) (Some x) = is in
+          let same : ◌≡◌ {A = ℕ × Asked} (k, Does input) x = cc in
+          subst (λ y. FromCame came y.1) same tt
+
+  jobs : (builds : Given) (ks : List ℕ) (x : ℕ × Asked)
+      → first_given (job_at here builds) ks ≡ Some x → FromCame came x.1
+  jobs builds = each_does (λ k. option_and_then (λ s. answer_of s builds) (here k))
+
+  owns : (count : ℕ) (p : Pending) (ks : List ℕ) (x : ℕ × Asked)
+      → IsFirstOwn here count p ks (Some x) → FromCame came x.1
+  owns count p [] x is = absurd (let no : ◌≡◌ {A = Chosen} (Some x) None = is in cc)
+  owns count p (k ∷ ks) x (None, own, later) = owns count p ks x later
+  owns count p (k ∷ ks) x (Some input, own, done) =
+      let known : ◌≡◌ {A = Chosen} (Some x) (Some (k, Does input)) = done in
+      let same : ◌≡◌ {A = ℕ × Asked} x (k, Does input) = cc in
+      subst (λ y. FromCame came y.1) (sym same) tt
+
+  pub from_came : (count : ℕ) (p : Pending) (builds : Given) (x : ℕ × Asked)
+      → IsChoice here count p builds came (Some x) → FromCame came x.1
+  from_came count p builds x is = by_job (first_job here count builds) refl is
+    where
+      by_here : (d : ℕ × Text) → came ≡ Some d → (o : Option State)
+          → IsGivenOr (option_map (λ (s : State). (d.0, Comes d.1)) o) (Some x)
+          (IsFirstOwn here count p (in_turn p.next count) (Some x))
+          → FromCame came x.1
+      by_here d e None is = owns count p (in_turn p.next count) x is
+      by_here d e (Some s) is =
+          let known : ◌≡◌ {A = Chosen} (Some x) (Some (d.0, Comes d.1)) = is in
+          let same : ◌≡◌ {A = ℕ × Asked} x (d.0, Comes d.1) = cc in
+          subst (λ y. FromCame came y.1) (sym same) (d.0, e)
+
+      by_came : (a : Arrived) → came ≡ a
+          → IsGivenOr (comes_to here a) (Some x)
+          (IsFirstOwn here count p (in_turn p.next count) (Some x))
+          → FromCame came x.1
+      by_came None e is = owns count p (in_turn p.next count) x is
+      by_came (Some d) e is = by_here d e (here d.0) is
+
+      by_job : (o : Chosen) → first_job here count builds ≡ o
+          → IsGivenOr (option_or o (comes_to here came)) (Some x)
+          (IsFirstOwn here count p (in_turn p.next count) (Some x)) → FromCame came x.1
+      by_job None job is = by_came came refl is
+      by_job (Some y) job is =
+          let known : ◌≡◌ {A = Chosen} (Some x) (Some y) = is in
+          let same : x ≡ y = cc in
+          jobs builds (range_with_len 0 count) x
+          (subst (λ z. first_job here count builds ≡ Some z) (sym same) job)
+
+  module _ (made : Option Given) (v : Option (ℕ × Wish)) (count : ℕ) (p : Pending)
+      (x : ℕ × Asked) where
+    going : Some x ≡ first_going here count p → FromCame came x.1
+    going is = each_does (λ k. option_and_then (going_on (above_at p k)) (here k))
+        (in_turn p.next count) x (sym is)
+
+    by_wish : (k : ℕ) (w : Wish) (o : Option State)
+        → Some x ≡ option_or (option_map (λ (s : State). (k, Does (asked_for w s))) o)
+        (first_going here count p)
+        → FromCame came x.1
+    by_wish k w None is = going is
+    by_wish k w (Some s) is =
+        let known : ◌≡◌ {A = Chosen} (Some x) (Some (k, Does (asked_for w s))) = is in
+        let same : ◌≡◌ {A = ℕ × Asked} x (k, Does (asked_for w s)) = cc in
+        subst (λ y. FromCame came y.1) (sym same) tt
+
+    by_left : (u : Option (ℕ × Wish))
+        → Some x ≡ option_or (wished here u) (first_going here count p) → FromCame came x.1
+    by_left None is = going is
+    by_left (Some (k, w)) is = by_wish k w (here k) is
+
+    comes_here : (d : ℕ × Text) → came ≡ Some d → (o : Option State)
+        → Some x ≡ option_or (option_map (λ (s : State). (d.0, Comes d.1)) o)
+        (left_to_do here count p v)
+        → FromCame came x.1
+    comes_here d e None is = by_left v is
+    comes_here d e (Some s) is =
+        let known : ◌≡◌ {A = Chosen} (Some x) (Some (d.0, Comes d.1)) = is in
+        let same : ◌≡◌ {A = ℕ × Asked} x (d.0, Comes d.1) = cc in
+        subst (λ y. FromCame came y.1) (sym same) (d.0, e)
+
+    comes_in : (a : Arrived) → came ≡ a
+        → Some x ≡ option_or (comes_to here a) (left_to_do here count p v) → FromCame came x.1
+    comes_in None e is = by_left v is
+    comes_in (Some d) e is = comes_here d e (here d.0) is
+
+    answers : (o : Chosen) → first_answer here count (λ k. made) ≡ o
+        → Some x ≡ option_or o (option_or (comes_to here came) (left_to_do here count p v))
+        → FromCame came x.1
+    answers None none is = comes_in came refl is
+    answers (Some y) some is =
+        let known : ◌≡◌ {A = Chosen} (Some x) (Some y) = is in
+        let same : x ≡ y = cc in
+        each_does (λ k. option_and_then (answer_if made) (here k)) (range_with_len 0 count) x
+        (subst (λ z. first_answer here count (λ k. made) ≡ Some z) (sym same) some)
+
+    pub live_from_came : Some x ≡ live_choice here count p (λ k. made) v came
+        → FromCame came x.1
+    live_from_came is = answers (first_answer here count (λ k. made)) refl is
+
+-- the port vouches for bytes that a turn chooses
+pub choice_heard : {D P : Type 0} (given : P → Option (List Arrived))
+    (does : P → Call → P → Type 0) (vouches : P → Text → Type 0) (old new : SoloState D P)
+    (handed : Handed) (parcels : List Parcel) (asked : Asked)
+    → IsChosen given does vouches old new handed parcels (Some (me_of old, asked))
+    → IsHeard vouches new.port asked
+choice_heard given does vouches old new handed parcels asked is =
+    is_heard vouches new.port came asked (by handed is.choice) is.vouched
+  where
+    came : Arrived
+    came = came_by is.answer
+
+    here : Here
+    here = only old.node.node
+
+    count : ℕ
+    count = length old.node.node.member.weights
+
+    by : (h : Handed)
+        → IsChoiceBy h here count old.pending (me_of old) came (Some (me_of old, asked))
+        → FromCame came asked
+    by (AllBuilds builds) c = from_came here came count old.pending builds (me_of old, asked) c
+    by (SoFar made wish) c = live_from_came here came made (option_map (λ w. (me_of old, w)) wish)
+        count old.pending (me_of old, asked) c

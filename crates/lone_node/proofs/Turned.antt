@@ -1,0 +1,185 @@
+-- The choice is carried out.
+use Rattle.std.proofs.Common.{◌≡◌, ◌⊎◌, ℕ, true, false, List, [], ◌∷◌, Option, None, Some, Ok, map, refl, sym, ap, subst, ◌∙◌, inr}
+use Rattle.turn_rules.specs.Acts.{asked_by}
+use Rattle.turn_rules.specs.Choice.{Chosen}
+use Rattle.turn_rules.specs.Pending.{kept_after}
+use Rattle.turn_rules.specs.declared.fault.TurnFault.{TurnFault}
+use Rattle.turn_rules.specs.declared.fault.TurnFault.TheVariants as refused
+use Rattle.faults.specs.Bytes.{Text}
+use Rattle.node.proofs.Finishing.{note_is}
+use Rattle.node.specs.Calls.{HasFilled, HasTried, LeavesItsNoteAtMost, left_by}
+use Rattle.node.specs.OnLog.{HasRoomForNote, IsFull, IsOnLog, LacksRoom}
+use Rattle.node.specs.State.{LoggedNode}
+use Rattle.node.specs.Parcels.{datagrams_to}
+use Rattle.node.specs.Step.{Asked, Takes, after, note_in, taken_by}
+use Rattle.turn_rules.specs.Calls.{came_by}
+use Rattle.turn_rules.specs.Offered.{WasOffered, parcels_from}
+use Rattle.turn_rules.specs.CausedSteps.{IsCausedStep}
+use Rattle.turn_rules.specs.declared.caused_step.CausedStep.{CausedStep}
+use Rattle.datagram_ports.specs.Calls.{Call}
+use Rattle.datagram_ports.specs.Kept.{Arrived, GoesOnBy, KeepsVouching, Parcel}
+use Rattle.lone_node.specs.Handed.{Handed}
+use Rattle.stable_record.specs.History.{History}
+use Rattle.lone_node.proofs.ByCase.{goes_no_more, goes_on}
+use Rattle.lone_node.specs.Faults.{IsTurnFault}
+use Rattle.lone_node.specs.State.{SoloState, me_of}
+use Rattle.lone_node.specs.Turn.{HasTaken, IsChosen, IsUntouched, IsVouchedFor, LeavesAtMost}
+use Rattle.lone_node.specs.inside.Turning.{HasChosen, IsMade, IsTakingFault, TookStep}
+
+module _ {D : Type 0} (n : LoggedNode D) (r : CausedStep) where
+  -- what was prepared is what was chosen
+  pub chosen_is : (c : Chosen) → IsMade n c (Some r)
+      → c ≡ Some (n.node.member.me, asked_by r.act)
+  chosen_is None made = absurd made
+  chosen_is (Some x) made = λ i. Some (made.0 i, sym (made.1).asks i)
+
+  -- its step is prepared
+  pub readied_is : (c : Chosen) → IsMade n c (Some r) → IsCausedStep n (asked_by r.act) r
+  readied_is None made = absurd made
+  readied_is (Some x) made = subst (λ asked. IsCausedStep n asked r) (sym (made.1).asks) made.1
+
+-- what was prepared for this node was prepared for an equal one
+pub has_now : {D P : Type 0} (given : P → Option (List Arrived)) (does : P → Call → P → Type 0)
+    (vouches : P → Text → Type 0) (old now mid : SoloState D P) (handed : Handed) → old ≡ now
+    → (o : Option CausedStep) (r : CausedStep) → o ≡ Some r
+    → HasChosen given does vouches old mid handed o
+    → HasChosen given does vouches now mid handed (Some r)
+has_now given does vouches old now mid handed same o r is has =
+    subst (λ x. HasChosen given does vouches x mid handed (Some r)) same
+    (subst (HasChosen given does vouches old mid handed) is has)
+
+-- if that is the turn's choice and the node is unchanged
+pub readied_so : {D P : Type 0} (given : P → Option (List Arrived)) (does : P → Call → P → Type 0)
+    (vouches : P → Text → Type 0) (old mid : SoloState D P) (handed : Handed) (r : CausedStep)
+    → HasChosen given does vouches old mid handed (Some r) → IsCausedStep mid.node (asked_by r.act) r
+readied_so given does vouches old mid handed r has = subst (λ n. IsCausedStep n (asked_by r.act) r)
+    (sym has.same) (readied_is old.node r has.chosen has.made)
+
+-- a crash in what follows leaves what it leaves of the node before
+pub moments_so : {D P : Type 0} (is_kept : D → Type 0) (history : D → History)
+    (old mid new : SoloState D P) → mid.node ≡ old.node → (asked : Asked)
+    → LeavesAtMost is_kept history mid new asked → LeavesAtMost is_kept history old new asked
+moments_so is_kept history old mid new same asked = subst
+    (λ n. is_kept new.node.log.disk → IsOnLog history n → LeavesItsNoteAtMost n.node asked
+    (history n.log.disk) (history new.node.log.disk)) same
+
+-- what is untouched afterwards was untouched before
+pub untouched_so : {D P : Type 0} (is_kept : D → Type 0) (history : D → History)
+    (old mid new : SoloState D P) → mid.node ≡ old.node → (f : TurnFault)
+    → ((k : ℕ) × (f ≡ refused.Down k)) ⊎ IsUntouched is_kept history mid new
+    → ((k : ℕ) × (f ≡ refused.Down k)) ⊎ IsUntouched is_kept history old new
+untouched_so is_kept history old mid new same f = subst
+    (λ n. ((k : ℕ) × (f ≡ refused.Down k))
+    ⊎ (is_kept new.node.log.disk → (n.node.stopped ≡ false → IsOnLog history n)
+    → history new.node.log.disk ≡ history n.log.disk)) same
+
+-- a port that was offered nothing went through no call
+none_sent : {P : Type 0} (does : P → Call → P → Type 0) (old new : P) → WasOffered does old [] new
+    → new ≡ old
+none_sent does old new ([], are, same) = same
+none_sent does old new (a ∷ answers, are, went) =
+    absurd (let no : ◌≡◌ {A = List Parcel} (a.0 ∷ map (λ x. x.0) answers) [] = are in cc)
+
+-- what was vouched for still is
+vouched_on : {P : Type 0} (vouches : P → Text → Type 0) (old new : P) (came : Arrived)
+    → KeepsVouching vouches old new → IsVouchedFor vouches old came
+    → IsVouchedFor vouches new came
+vouched_on vouches old new None keeps is = tt
+vouched_on vouches old new (Some d) keeps is = keeps d.1 is
+
+module _ {D P : Type 0} (given : P → Option (List Arrived)) (does : P → Call → P → Type 0)
+    (vouches : P → Text → Type 0) (old mid new : SoloState D P) (handed : Handed) where
+  -- nothing more was received, and then these were offered
+  pub chosen_then : (c : Chosen) (parcels : List Parcel)
+      → IsChosen given does vouches old mid handed [] c
+      → GoesOnBy [] (given mid.port) (given new.port) → WasOffered does mid.port parcels new.port
+      → KeepsVouching vouches mid.port new.port
+      → IsChosen given does vouches old new handed parcels c
+  chosen_then c parcels is nothing sent keeps = record {
+    answer = is.answer;
+    looked = goes_no_more _ (given old.port) (given mid.port) (given new.port) is.looked nothing;
+    between = is.between;
+    received = is.received;
+    sent = subst (λ p. WasOffered does p parcels new.port)
+        (none_sent does is.between mid.port is.sent) sent;
+    vouched = vouched_on vouches mid.port new.port (came_by is.answer) keeps is.vouched;
+    choice = is.choice;
+  }
+
+  module _ (r : CausedStep) (has : HasChosen given does vouches old mid handed (Some r))
+      (nothing : GoesOnBy [] (given mid.port) (given new.port))
+      (keeps : KeepsVouching vouches mid.port new.port) where
+    pub chosen_so : (parcels : List Parcel) → WasOffered does mid.port parcels new.port
+        → IsChosen given does vouches old new handed parcels (Some (me_of old, asked_by r.act))
+    chosen_so parcels sent = subst (λ c. IsChosen given does vouches old new handed parcels c)
+        (chosen_is old.node r has.chosen has.made)
+        (chosen_then has.chosen parcels has.is_chosen nothing sent keeps)
+
+    -- the prepared step was taken
+    pub taken_so : (offered : P → Option (List Parcel)) → mid.pending ≡ old.pending
+        → GoesOnBy [] (offered old.port) (offered mid.port)
+        → TookStep offered does mid new (asked_by r.act)
+        → HasTaken given offered does vouches old new handed (asked_by r.act)
+    taken_so offered kept silent t =
+        let sends = λ (n : LoggedNode D). parcels_from n.node.member.me
+        (datagrams_to t.taken.answer.sends) in
+        record {
+          taken = t.taken;
+          takes = subst (λ n. Takes n.node (asked_by r.act) (Ok t.taken)) has.same t.takes;
+          room = subst (λ n. ¬ IsFull n.node t.taken.answer.note) has.same t.room;
+          node = t.node ∙ ap (λ n. after n.node t.taken) has.same;
+          pending = t.pending ∙ (λ i. kept_after (kept i) ((has.same i).node.member.me)
+              ((has.same i).node.member) (asked_by r.act));
+          offers = subst (λ n. GoesOnBy (sends n) (offered old.port) (offered new.port)) has.same
+              (goes_on _ (offered old.port) (offered mid.port) (offered new.port) silent t.offers);
+          chosen = chosen_so (sends old.node)
+              (subst (λ n. WasOffered does mid.port (sends n) new.port) has.same t.calls);
+        }
+
+    filled : LacksRoom mid.node.log (note_in r.ready.step) → HasFilled old.node (asked_by r.act)
+    filled lacks = record {
+      step = taken_by old.node.node r.ready;
+      takes = (readied_is old.node r has.chosen has.made).takes;
+      lacks = subst (LacksRoom old.node.log) (sym (note_is old.node.node.member r.ready.step))
+          (subst (λ n. LacksRoom n.log (note_in r.ready.step)) has.same lacks);
+    }
+
+    tried : HasRoomForNote mid.node.log (note_in r.ready.step)
+        → HasTried old.node (asked_by r.act)
+    tried room = record {
+      step = taken_by old.node.node r.ready;
+      takes = (readied_is old.node r has.chosen has.made).takes;
+      room = subst (HasRoomForNote old.node.log)
+          (sym (note_is old.node.node.member r.ready.step))
+          (subst (λ n. HasRoomForNote n.log (note_in r.ready.step)) has.same room);
+    }
+
+    -- or it wasn't
+    chosen_still : new.port ≡ mid.port
+        → IsChosen given does vouches old new handed [] (Some (me_of old, asked_by r.act))
+    chosen_still still = chosen_so [] ([], refl, still)
+
+    pub refused_so : new.port ≡ mid.port → (leaves : Asked → Type 0) → leaves (asked_by r.act)
+        → (f : TurnFault) → IsTakingFault mid.node new.node (note_in r.ready.step) f
+        → IsTurnFault given does vouches old new handed leaves f
+    refused_so still leaves left refused.Memory same =
+        (Some (me_of old, asked_by r.act), chosen_still still, same ∙ ap (λ n. n.node) has.same)
+    refused_so still leaves left (refused.Node g) (full, lacks, same) = (
+      asked_by r.act,
+      chosen_still still,
+      record {
+        cause = inr (full, filled lacks);
+        leaves = same ∙ ap (λ n. n.node) has.same
+            ∙ sym (ap (left_by old.node.node (asked_by r.act)) full);
+      },
+    )
+    refused_so still leaves left (refused.Down k) (me, room, stops) = (
+      asked_by r.act,
+      chosen_still still,
+      me ∙ ap (λ n. n.node.member.me) has.same,
+      tried room,
+      stops ∙ ap (λ n. record n.node { stopped = true }) has.same,
+      left,
+    )
+    refused_so still leaves left refused.NotSent none = absurd none
+    refused_so still leaves left refused.NotFresh none = absurd none

@@ -1,0 +1,10 @@
+-- Each kind of event is an act or none, and what it leaves of nodes.
+pub mod BuildActs
+pub mod DeliveryActs
+mod EventActs
+pub mod InputActs
+mod LocalFacts
+mod MembersLeft
+pub mod StepActs
+pub mod StopsInDeliveries
+mod WaitingDeliveries

@@ -1,0 +1,2 @@
+-- For crates that run nodes.
+pub mod HostedNodes

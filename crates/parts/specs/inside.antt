@@ -1,2 +1,0 @@
--- What only bodies and proofs need.
-pub mod Answering

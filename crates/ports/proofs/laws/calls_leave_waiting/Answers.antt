@@ -1,5 +1,0 @@
-use Rattle.ports.proofs.Waiting.{left_waiting}
-use Rattle.ports.proofs.laws.calls_leave_waiting.Goals as goal
-
-pub returns : goal.returns
-returns c = left_waiting

@@ -1,5 +1,0 @@
-use Rattle.std.proofs.Common.{rules}
-use Rattle.running.proofs.run_fault.RunFault.cause.Goals as goal
-
-pub returns : goal.returns
-returns c = search rules

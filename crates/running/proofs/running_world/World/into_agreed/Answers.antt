@@ -1,5 +1,0 @@
-use Rattle.std.proofs.Common.{rules}
-use Rattle.running.proofs.running_world.World.into_agreed.Goals as goal
-
-pub returns : goal.returns
-returns c = search rules

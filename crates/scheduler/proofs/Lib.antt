@@ -1,0 +1,7 @@
+mod Among
+mod HeldUnits
+mod Left
+mod Moved
+pub mod Named
+mod Seen
+mod Wished

@@ -1,0 +1,153 @@
+//! What a desk keeps of what its node did.
+ghost use Rattle.std.specs.Prelude.{◌≡◌, IfErr, OnErr, OnOk};
+ghost use Rattle.scheduler.specs.Keeping.{IsSameButAsked, IsSameButMoved, IsSameButTaken};
+ghost use Rattle.scheduler.specs.Taking.{IsQuestionKept, KeepsQuestion, KeepsQuestionOf, asked_by, behind, failed_by, unit_asked, unit_failed, with_asked, with_failed, without_unit};
+ghost use Rattle.engine.specs.Division.{number_found};
+ghost use Rattle.listing.specs.Tree.{position_of};
+ghost use Rattle.job_folder.specs.Refusals.{IsOfSystem};
+
+use crate::desk::Desk;
+use crate::posted::place_of;
+use faults::Memory;
+use job_folder::{Name, WorkFault};
+use member::{Input, Member};
+use pkgpath::PkgPath;
+use std::time::Instant;
+use turn_rules::Act;
+
+impl Desk<'_> {
+    /// Keeps what follows of what the node did. (What it was wished it may not have done.)
+    ///
+    /// # Errors
+    ///
+    /// Memory; what the system refused. What is out, what failed, and for what was asked is then as
+    /// it was.
+    pub fn took(
+        &mut self,
+        rt: &HostRuntime,
+        member: &Member<'_>,
+        act: &Act,
+        now: Instant,
+    ) -> Result<(), WorkFault>
+        ensures out { OnOk result (self.new.out.items
+            ≡ without_unit self.old.out.items (failed_by member.now act.now)) }
+        ensures failed { OnOk result (self.new.failed.entries
+            ≡ with_failed self.old.failed.entries self.old.out.items
+            (failed_by member.now act.now)) }
+        ensures asked { OnOk result (self.new.asked.keys
+            ≡ with_asked self.old.asked.keys (asked_by member.now act.now)) }
+        ensures question { OnOk result
+            (KeepsQuestionOf member.now act.now now self.old self.new) }
+        ensures left { OnErr result ((self.new.out.items ≡ self.old.out.items)
+            × (self.new.failed.entries ≡ self.old.failed.entries)
+            × (self.new.asked.keys ≡ self.old.asked.keys)) }
+        ensures rest { IsSameButTaken self.old self.new }
+        ensures refused { IfErr result IsOfSystem }
+    {
+        match act {
+            Act::Own(input) => self.took_input(rt, member, input, now),
+            Act::Datagram(_) => Ok(()),
+        }
+    }
+
+    /// Keeps what follows of what the member was asked.
+    fn took_input(
+        &mut self,
+        rt: &HostRuntime,
+        member: &Member<'_>,
+        input: &Input,
+        now: Instant,
+    ) -> Result<(), WorkFault>
+        ensures out { OnOk result (self.new.out.items
+            ≡ without_unit self.old.out.items (unit_failed member.now input.now)) }
+        ensures failed { OnOk result (self.new.failed.entries
+            ≡ with_failed self.old.failed.entries self.old.out.items
+            (unit_failed member.now input.now)) }
+        ensures asked { OnOk result (self.new.asked.keys
+            ≡ with_asked self.old.asked.keys (unit_asked member.now input.now)) }
+        ensures question { OnOk result
+            (KeepsQuestion member.now input.now now self.old self.new) }
+        ensures left { OnErr result ((self.new.out.items ≡ self.old.out.items)
+            × (self.new.failed.entries ≡ self.old.failed.entries)
+            × (self.new.asked.keys ≡ self.old.asked.keys)) }
+        ensures rest { IsSameButTaken self.old self.new }
+        ensures refused { IfErr result IsOfSystem }
+    {
+        match input {
+            Input::Ask { path } => Ok(self.asked_for(member, path, now)?),
+            Input::Failed { path } => self.fail(rt, member, path),
+            Input::Claim { .. } | Input::Built { .. } | Input::Nudge | Input::Message(_) => Ok(()),
+        }
+    }
+
+    /// Keeps that the others were asked for what the path names.
+    fn asked_for(&mut self, member: &Member<'_>, path: &PkgPath, now: Instant) -> Result<(), Memory>
+        ensures asked { OnOk result (self.new.asked.keys
+            ≡ with_asked self.old.asked.keys (number_found member.now.division path.now)) }
+        ensures question { OnOk result
+            (IsQuestionKept member.now path.now now self.old self.new) }
+        ensures left { OnErr result (self.new.asked.keys ≡ self.old.asked.keys) }
+        ensures rest { IsSameButAsked self.old self.new }
+    {
+        if let Some(unit) = member.units().find(path) {
+            self.asked.insert(unit)?;
+            self.last = Some(unit);
+        }
+        self.next = position_behind(member, path);
+        self.asked_at = now;
+        Ok(())
+    }
+
+    /// The build of the unit that the path names failed: it is claimed no more, until its mark is
+    /// taken away. One without a mark gets one.
+    fn fail(
+        &mut self,
+        rt: &HostRuntime,
+        member: &Member<'_>,
+        path: &PkgPath,
+    ) -> Result<(), WorkFault>
+        ensures out { OnOk result (self.new.out.items
+            ≡ without_unit self.old.out.items (number_found member.now.division path.now)) }
+        ensures failed { OnOk result (self.new.failed.entries
+            ≡ with_failed self.old.failed.entries self.old.out.items
+            (number_found member.now.division path.now)) }
+        ensures left { OnErr result ((self.new.out.items ≡ self.old.out.items)
+            × (self.new.failed.entries ≡ self.old.failed.entries)) }
+        ensures rest { IsSameButMoved self.old self.new }
+        ensures refused { IfErr result IsOfSystem }
+    {
+        let Some(unit) = member.units().find(path) else {
+            return Ok(());
+        };
+        let Some(place) = place_of(self.out.as_slice(), unit) else {
+            return Ok(());
+        };
+        self.failed.reserve(1)?;
+        self.mark(rt, &self.out[place].name)?;
+        let posted = self.out.remove(place);
+        drop(self.failed.insert(posted.unit, posted.name).unwrap());
+        Ok(())
+    }
+
+    /// Marks the build of this name as failed, if it has no mark.
+    fn mark(&self, rt: &HostRuntime, name: &Name) -> Result<(), WorkFault>
+        ensures { IfErr result IsOfSystem }
+    {
+        if self.folder.has_failed(rt, name)? {
+            return Ok(());
+        }
+        self.folder
+            .mark(rt, name, "what was handed in makes no build")
+    }
+}
+
+/// The position behind that of the package of this path, if there is such a package; else 0.
+fn position_behind(member: &Member<'_>, path: &PkgPath) -> u32
+    ensures { result ≡ behind (position_of member.now.division.tree path.now) }
+{
+    let tree = member.tree();
+    match tree.position(path) {
+        Some(position) if position < tree.len() => position + 1,
+        _ => 0,
+    }
+}

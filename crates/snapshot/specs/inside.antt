@@ -1,3 +1,0 @@
--- What only bodies and proofs need.
-pub mod Keeping
-pub mod Lacking

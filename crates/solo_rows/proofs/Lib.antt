@@ -1,2 +1,0 @@
-mod TwoTurns
-mod Handed

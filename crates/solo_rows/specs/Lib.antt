@@ -1,2 +1,0 @@
-pub mod Two
-pub mod Handed

@@ -1,0 +1,108 @@
+-- There is a choice.
+use Rattle.std.proofs.Common.{◌≡◌, ◌<◌, ◌⊎◌, ℕ, zero, suc, Bool, true, false, List, [], ◌∷◌, Option, None, Some, length, refl, sym, ap, subst, ◌∙◌, inl, inr, arith}
+use Rattle.std.specs.Prelude.{option_map}
+use Rattle.std.proofs.lemmas.Bool.{cases_Bool, cases_eq, true≢false}
+use Rattle.engine.proofs.OneLetter.{only_one_letter}
+use Rattle.engine.proofs.SomeLetter.{some_letter}
+use Rattle.engine.specs.State as engine
+use Rattle.engine.specs.declared.Letter.{Letter}
+use Rattle.engine.specs.declared.Letter.TheVariants as letters
+use Rattle.faults.specs.Answers.{option_or}
+use Rattle.datagram_ports.specs.Kept.{Arrived}
+use Rattle.protocol.specs.Given.{Given}
+use Rattle.protocol.specs.Member.{IsMember}
+use Rattle.protocol.specs.State.{OpenClaim, State, engine_of}
+use Rattle.protocol.specs.declared.input.Input.{Input}
+use Rattle.node.specs.Step.{Does}
+use Rattle.engine.specs.Division.{number_of}
+use Rattle.turn_rules.specs.Choice.{Chosen, Here, IsDoneOr, IsFirstOwn, IsGivenOr, IsOwnIf, barred_at, comes_to, first_job, in_turn}
+use Rattle.turn_rules.specs.Laws.{SomeChoice}
+use Rattle.turn_rules.specs.Own.{Barred, IsFree, IsLeastFree, IsOwnBy, claim_of, is_barred, renewed}
+use Rattle.turn_rules.specs.Pending.{Pending, above_at}
+
+-- ---- the least position with a decidable property
+
+module _ (P : ℕ → Type 0) (each : (n : ℕ) → P n ⊎ (P n → ⊥)) where
+  -- either no position below n has it, or there is a least one that does
+  least_below : (n : ℕ) → ((q : ℕ) → q < n → P q → ⊥)
+      ⊎ ((q : ℕ) × (q < n) × P q × ((k : ℕ) → k < q → P k → ⊥))
+  least_below zero = inl (λ q below. absurd (omega arith))
+  least_below (suc n) = elim (least_below n) [
+    | inr (q, below, meets, least) ↦ inr (q, omega (arith, below), meets, least)
+    | inl none ↦ elim (each n) [
+      | inl meets ↦ inr (n, omega arith, meets, none)
+      | inr fails ↦ inl (λ q below. elim (cases_eq q n) [
+        | inl same ↦ subst (λ k. P k → ⊥) (sym same) fails
+        | inr before ↦ none q (omega (arith, below, before))
+      ])
+    ]
+  ]
+
+-- ---- what is free
+
+is_queued : (l : Letter) → (l ≡ letters.Q) ⊎ (l ≡ letters.Q → ⊥)
+is_queued letters.Q = inl refl
+is_queued letters.T = inr (λ e. let no : letters.T ≡ letters.Q = e in cc)
+is_queued letters.B = inr (λ e. let no : letters.B ≡ letters.Q = e in cc)
+is_queued letters.I = inr (λ e. let no : letters.I ≡ letters.Q = e in cc)
+is_queued letters.Ignored = inr (λ e. let no : letters.Ignored ≡ letters.Q = e in cc)
+
+module _ (s : State) (is : IsMember s) (barred : Barred) where
+  queued_or_not : (p : ℕ) → engine.HasLetter (engine_of s) p letters.Q
+      ⊎ (engine.HasLetter (engine_of s) p letters.Q → ⊥)
+  queued_or_not p =
+      let found = some_letter s.division.tree s.division.units (engine.has_agreed (engine_of s)) p is.division.units in
+      elim (is_queued found.0) [
+        | inl same ↦ inl (subst (λ l. engine.HasLetter (engine_of s) p l) same found.1)
+        | inr other ↦ inr (λ has. other (only_one_letter s.division.tree (engine.has_agreed (engine_of s)) p found.0 letters.Q found.1 has))
+      ]
+
+  free_or_not : (p : ℕ) → IsFree s barred p ⊎ (IsFree s barred p → ⊥)
+  free_or_not p = elim (queued_or_not p) [
+    | inr other ↦ inr (λ free. other free.0)
+    | inl has ↦ elim (cases_Bool (is_barred barred (number_of s.division p))) [
+      | inl is_so ↦ inr (λ free. true≢false (sym is_so ∙ free.1))
+      | inr not_so ↦ inl (has, not_so)
+    ]
+  ]
+
+  some_least : (least : Option ℕ) × IsLeastFree s barred least
+  some_least = elim (least_below (IsFree s barred) free_or_not (length s.division.tree)) [
+    | inl none ↦ (None, none)
+    | inr (p, below, free, least) ↦ (Some p, (below, free, least))
+  ]
+
+pub some_own_by : (s : State) → IsMember s → (o : Option OpenClaim) (above : Option ℕ) (barred : Barred)
+    → (own : Option Input) × IsOwnBy s o above barred own
+some_own_by s is None above barred =
+    let least = some_least s is barred in
+    (option_map (claim_of s) least.0, (least.0, least.1, refl))
+some_own_by s is (Some o) above barred = (Some (renewed s o above), refl)
+
+-- ---- the choice
+
+module _ (here : Here) (count : ℕ) (p : Pending)
+    (are : (k : ℕ) (s : State) → here k ≡ Some s → IsMember s) where
+  some_own : (k : ℕ) (o : Option State) → here k ≡ o
+      → (own : Option Input) × IsOwnIf here count p k o own
+  some_own k None at = (None, refl)
+  some_own k (Some s) at = some_own_by s (are k s at) s.claim (above_at p k) (barred_at here count p k)
+
+  later_or_now : (k : ℕ) (ks : List ℕ) → ((own : Option Input) × IsOwnIf here count p k (here k) own)
+      → ((chosen : Chosen) × IsFirstOwn here count p ks chosen)
+      → (chosen : Chosen) × IsFirstOwn here count p (k ∷ ks) chosen
+  later_or_now k ks (None, is) later = (later.0, (None, is, later.1))
+  later_or_now k ks (Some input, is) later = (Some (k, Does input), (Some input, is, refl))
+
+  some_first : (ks : List ℕ) → (chosen : Chosen) × IsFirstOwn here count p ks chosen
+  some_first [] = (None, refl)
+  some_first (k ∷ ks) = later_or_now k ks (some_own k (here k) refl) (some_first ks)
+
+pub some_choice : SomeChoice
+some_choice here count p builds came are =
+    by (option_or (first_job here count builds) (comes_to here came))
+  where
+    by : (g : Chosen) → (chosen : Chosen)
+        × IsGivenOr g chosen (IsFirstOwn here count p (in_turn p.next count) chosen)
+    by None = some_first here count p are (in_turn p.next count)
+    by (Some x) = (Some x, refl)

@@ -1,0 +1,17 @@
+pub mod Acts
+pub mod Answering
+pub mod Calls
+pub mod Choice
+pub mod Laws
+pub mod Live
+pub mod LiveLaws
+pub mod Nays
+pub mod Offered
+pub mod Own
+pub mod Pending
+pub mod PuttingBack
+pub mod CausedSteps
+pub mod Refusals
+pub mod Unfailed
+pub mod Wishes
+pub mod inside

@@ -1,0 +1,3 @@
+-- What only bodies and proofs need.
+pub mod Answering
+pub mod Keeping

@@ -1,9 +1,0 @@
-pub mod State
-pub mod Turn
-pub mod Faults
-pub mod Calls
-pub mod Disks
-pub mod Starting
-pub mod AnyCase
-pub mod Headline
-pub mod inside

@@ -1,8 +1,0 @@
-use Rattle.turns_rows.specs.Going.{GoesOn, WasAskedAtMost}
-use Rattle.turns_rows.proofs.run.take_turns.Given as goal
-
-abbrev pub invariant-loop-turn : goal.invariant-loop-turn
-invariant-loop-turn g l = record {
-  goes_on : GoesOn l.initial.cluster l.cluster;
-  asked : WasAskedAtMost l.turn g.P.Port.given l.initial.cluster.port l.cluster.port;
-}

@@ -1,5 +1,0 @@
-use Rattle.turns_rows.proofs.Showing.{shows}
-use Rattle.turns_rows.proofs.shown.turn_then_count.Goals as goal
-
-pub returns : goal.returns
-returns g c = shows c.turn-answer.new.self c.args.node c.counts.result c.counts.ensures

@@ -1,7 +1,0 @@
-use Rattle.std.proofs.Common.{map, take}
-use Rattle.events.specs.Events.{event_view}
-use Rattle.way_rows.specs.Stops.{HasTaken}
-use Rattle.way_rows.proofs.going.go.Given as goal
-
-abbrev pub invariant-loop-event : goal.invariant-loop-event
-invariant-loop-event l = HasTaken l.initial.world (map event_view (take l.event-index l.events)) l.world

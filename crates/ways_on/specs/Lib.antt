@@ -1,0 +1,10 @@
+pub mod Rounds
+pub mod Refusals
+pub mod Asked
+pub mod Ways
+pub mod Length
+pub mod Laws
+pub mod inside
+pub use Rattle.simulator.specs.Faults
+pub use Rattle.simulator.specs.History
+pub use Rattle.simulator.specs.declared.run_fault.RunFault

@@ -1,9 +1,0 @@
--- Words that clap takes name a call.
-use Rattle.std.proofs.Common.{map, subst, sym}
-use Rattle.words.proofs.Taken.{taken_names_call}
-use Rattle.words.specs.inside.Naming.{NamesCall}
-use Rattle.words.proofs.dpbr_words.Goals as goal
-
-pub returns-clause-faults : goal.returns-clause-faults
-returns-clause-faults g c =
-    absurd (c.in-None.ensures.none (subst NamesCall (sym c.in_ok-matches.ensures.matched) (taken_names_call (map g.S.AsStr.text c.args.words.now) c.in_ok-matches.ensures.faults)))

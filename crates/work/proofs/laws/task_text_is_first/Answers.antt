@@ -1,5 +1,0 @@
-use Rattle.work.proofs.Tellings.{task_text_is_first}
-use Rattle.work.proofs.laws.task_text_is_first.Goals as goal
-
-pub returns : goal.returns
-returns c = task_text_is_first

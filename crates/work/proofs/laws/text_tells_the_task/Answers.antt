@@ -1,5 +1,0 @@
-use Rattle.work.proofs.Tellings.{text_tells_the_task}
-use Rattle.work.proofs.laws.text_tells_the_task.Goals as goal
-
-pub returns : goal.returns
-returns c = text_tells_the_task
