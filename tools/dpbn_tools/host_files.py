@@ -1,9 +1,11 @@
 """What dpbn-hosts hands out to a host and gets from it."""
 from __future__ import annotations
 
+import contextlib
 import io
 import json
 import os
+import stat
 import tarfile
 from typing import Any, BinaryIO, Dict, Iterator, List, Tuple
 
@@ -64,6 +66,8 @@ def send(folder: Folder, source: BinaryIO, out: BinaryIO) -> None:
             path = f"{folder.store(host)}/{host_store.checked(digest)}"
             with open(path, "rb") as file:
                 add(tar, digest, file, os.fstat(file.fileno()).st_size, 0)
+        if "times" in asked:
+            send_small(tar, "times", f"{folder.work(host)}/times", MAX_JOB)
         if "work" in asked:
             send_work(tar, folder.work(host), asked["work"])
         if "logs" in asked:
@@ -88,7 +92,8 @@ def small_files(work: str) -> Iterator[Tuple[str, str, int]]:
         for name in names_in(f"{work}/{part}"):
             yield f"{part}/{name}", f"{work}/{part}/{name}", 0
     for name in names_in(f"{work}/build"):
-        yield f"build/{name}/lock", f"{work}/build/{name}/lock", 0
+        for part in ("lock", "about", "status"):
+            yield f"build/{name}/{part}", f"{work}/build/{name}/{part}", 4096
     for name in ("away", "stop", "times"):
         yield name, f"{work}/{name}", MAX_JOB
     for name in names_in(f"{work}/failed"):
@@ -103,46 +108,42 @@ def logs_of(mark: str) -> List[str]:
     unit, colon, _ = first.partition(": ")
     if colon and unit.isascii():
         names.append(f"{short_name(unit.encode())}.log")
-    return [name for name in names if name and not name.startswith(".") and "/" not in name]
+    names = [name for name in names if name and not name.startswith(".")]
+    return [place for name in names for place in (f"failed/{name}", name)]
 
 
 def send_work(tar: tarfile.TarFile, work: str, have: Dict[str, int]) -> None:
     """Sends the files that aren't had as they are now, and before them the names of all."""
-    found: Dict[str, Tuple[str, int, int, int]] = {}
+    found: Dict[str, Tuple[str, int, int]] = {}
     for name, path, most in small_files(work):
         try:
             about = os.lstat(path)
         except (FileNotFoundError, NotADirectoryError):
             continue
         if os.path.isfile(path):
-            found[name] = path, about.st_mtime_ns, about.st_size, most
+            found[name] = path, about.st_mtime_ns, most
     names = json.dumps(sorted(found)).encode()
     add(tar, "names", io.BytesIO(names), len(names), 0)
-    for name, (path, touched, size, most) in found.items():
+    for name, (path, touched, most) in found.items():
         if have.get(name) != touched:
-            try:
-                data = last_bytes(path, size, most)
-            except FileNotFoundError:
-                continue
-            add(tar, name, io.BytesIO(data), len(data), touched)
+            send_small(tar, name, path, most)
 
 
-def last_bytes(path: str, size: int, most: int) -> bytes:
-    if not most:
-        return b""
-    with open(path, "rb") as file:
-        file.seek(max(0, size - most))
-        return file.read(most)
+def send_small(tar: tarfile.TarFile, name: str, path: str, most: int) -> None:
+    """Sends the last bytes of a file, if it is there."""
+    with contextlib.suppress(FileNotFoundError), open(path, "rb") as file:
+        about = os.fstat(file.fileno())
+        file.seek(max(0, about.st_size - most))
+        data = file.read(most)
+        add(tar, name, io.BytesIO(data), len(data), about.st_mtime_ns)
 
 
 def send_logs(tar: tarfile.TarFile, folder: str, have: Dict[str, int]) -> None:
     """Sends the logs of builds that aren't had as they are now."""
-    for name in names_in(folder):
-        path = f"{folder}/{name}"
-        if not os.path.isfile(path):
-            continue
-        with open(path, "rb") as file:
-            about = os.fstat(file.fileno())
-            if have.get(name) != about.st_mtime_ns:
-                data = file.read(about.st_size)
-                add(tar, name, io.BytesIO(data), len(data), about.st_mtime_ns)
+    for place, _, names in os.walk(folder):
+        for path in (f"{place}/{name}" for name in sorted(names)):
+            name = os.path.relpath(path, folder)
+            with contextlib.suppress(FileNotFoundError), open(path, "rb") as file:
+                about = os.fstat(file.fileno())
+                if stat.S_ISREG(about.st_mode) and have.get(name) != about.st_mtime_ns:
+                    add(tar, name, file, about.st_size, about.st_mtime_ns)

@@ -243,7 +243,7 @@ class Collection:
                     found[host.name] = data.read().splitlines(keepends=True)
 
             with contextlib.suppress(NoAnswer):
-                receive(self.file, host, {"work": {}}, take)
+                receive(self.file, host, {"times": True}, take)
 
         on_all(self.file.hosts, bring)
         text = b"".join(line for host in self.file.hosts for line in found.get(host.name, []) if line.endswith(b"\n"))
@@ -315,15 +315,24 @@ def bring_build_logs(collection: Collection) -> None:
     def bring(host: Host) -> str:
         folder = f"{collection.folder}/build-logs/{host.name}"
         os.makedirs(folder, exist_ok=True)
-        have = {name: os.stat(f"{folder}/{name}").st_mtime_ns for name in os.listdir(folder)}
         try:
-            receive(collection.file, host, {"logs": have}, lambda *parts: put_touched(folder, *parts))
+            receive(collection.file, host, {"logs": files_below(folder)}, lambda *parts: put_touched(folder, *parts))
             return ""
         except NoAnswer as no:
             return f"{host.name}: {no}"
 
     for line in filter(None, on_all(collection.file.hosts, bring)):
         collection.tell(line)
+
+
+def files_below(folder: str) -> Dict[str, int]:
+    """The files below a folder by name, and when each was touched, in nanoseconds."""
+    found: Dict[str, int] = {}
+    for place, _, names in os.walk(folder):
+        for name in names:
+            path = os.path.join(place, name)
+            found[os.path.relpath(path, folder)] = os.stat(path).st_mtime_ns
+    return found
 
 
 def put_touched(folder: str, name: str, data: BinaryIO, _size: int, touched: int) -> None:

@@ -7,9 +7,9 @@ import os
 import subprocess
 import sys
 import time
-from typing import BinaryIO, Dict, List
+from typing import BinaryIO, List
 
-from dpbn_tools.hosts_collect import beside, bring_log, log_path, put_touched, receive
+from dpbn_tools.hosts_collect import beside, bring_log, files_below, log_path, put_touched, receive
 from dpbn_tools.hosts_file import Host, HostsFile
 from dpbn_tools.hosts_remote import NoAnswer
 from dpbn_tools.hosts_start import on_all
@@ -24,9 +24,9 @@ def work_path(folder: str, host: Host) -> str:
 def bring_work(file: HostsFile, host: Host, folder: str) -> None:
     """Makes the copy of a work folder what the folder is now, as far as a report reads it."""
     copy = work_path(folder, host)
-    for part in ("jobs", "done", "failed", "build", "logs"):
+    for part in ("jobs", "done", "failed", "begun", "build", "logs"):
         os.makedirs(f"{copy}/{part}", exist_ok=True)
-    have = dict(files_below(copy))
+    have = files_below(copy)
 
     def take(name: str, data: BinaryIO, size: int, touched: int) -> None:
         if name == "names":
@@ -35,16 +35,6 @@ def bring_work(file: HostsFile, host: Host, folder: str) -> None:
             put_touched(copy, name, data, size, touched)
 
     receive(file, host, {"work": have}, take)
-
-
-def files_below(folder: str) -> Dict[str, int]:
-    """The files below a folder by name, and when each was touched."""
-    found: Dict[str, int] = {}
-    for place, _, names in os.walk(folder):
-        for name in names:
-            path = os.path.join(place, name)
-            found[os.path.relpath(path, folder)] = os.stat(path).st_mtime_ns
-    return found
 
 
 def remove_all(folder: str, names: "set[str]") -> None:

@@ -97,7 +97,7 @@ class Copy:
     def begin(self, source: BinaryIO) -> None:
         new = new_name(self.path)
         try:
-            with open(new, "xb", buffering=0) as file:
+            with open(new, "x+b", buffering=0) as file:
                 copy(source, file)
                 os.fsync(file.fileno())
                 first_closed_gate(file)
