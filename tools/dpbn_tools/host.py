@@ -23,15 +23,11 @@ def main() -> None:
     asked = options()
     os.umask(0o022)
     try:
-        sys.exit(COMMANDS[asked.command](asked, Folder(host_folder(asked.folder))))
+        sys.exit(COMMANDS[asked.command](asked, Folder(asked.folder)))
     except (BadFolder, hosts_file.BadFile, run_key.BadKey) as bad:
         sys.exit(f"dpbn-host: {bad}")
     except OSError as error:
         sys.exit(f"dpbn-host: {error}")
-
-
-def host_folder(path: str) -> str:
-    return path or "."
 
 
 def options(given: Optional[Sequence[str]] = None) -> argparse.Namespace:

@@ -105,8 +105,8 @@ def check(file: HostsFile, answers: Dict[str, Answered], listing: bytes, key: Op
             if not key and found["key"]:
                 lines.append(f"{host.name} has the run's key, and it isn't here: copy {found['path']}/key from there to {file.key}")
     if not key:
-        lines += [f"{host.name}: {answers[host.name].why}; the run's key is made once all hosts answer, as one may have it already"
-                  for host in file.hosts if not answers[host.name].found]
+        lines += [f"{host.name}: {answers[host.name].why}; the run's key is made once all hosts answer, as one may have it already; "
+                  f"or make it by `dpbn key {file.key}'" for host in file.hosts if not answers[host.name].found]
     if lines:
         raise Refused("\n".join(lines))
 

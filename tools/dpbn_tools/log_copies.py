@@ -53,14 +53,19 @@ class LogPart:
         self.file.close()
 
     def read(self, most: int) -> bytes:
-        if self.at == self.end:
-            # it may be open by now, and what follows it isn't in the copy
+        """As many bytes as are asked for, unless they end before."""
+        parts, left = [], most
+        while left > 0 and self.at < self.end:
+            part = os.pread(self.file.fileno(), min(left, CHUNK, self.end - self.at), self.at)
+            if not part:
+                raise BadLog(self.at, "the log became shorter")
+            parts.append(part)
+            self.at, left = self.at + len(part), left - len(part)
+        if left > 0 and self.at == self.end:
+            # the gate may be open by now, and what follows it isn't in the copy
+            parts.append(b"\0")
             self.at += 1
-            return b"\0"
-        data = os.pread(self.file.fileno(), min(most, CHUNK, self.end - self.at), self.at)
-        self.at += len(data)
-        # the archive's writer wants as many bytes as it asked for
-        return data + self.read(most - len(data)) if data and len(data) < most and self.at <= self.end else data
+        return b"".join(parts)
 
 
 class Copy:
