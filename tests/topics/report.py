@@ -134,6 +134,10 @@ class Played:
         self.job(work, unit)
         put(f"{self.folder}/work-{work}/build/{unit.replace('/', ':')}.abcd1234/lock", "", since)
 
+    def show_begun(self, work, unit, since):
+        """A build that runs, as its driver shows it by a file."""
+        put(f"{self.folder}/work-{work}/begun/{self.job(work, unit)}", "", since)
+
     def fail(self, work, unit, why, when=None):
         name, place = self.job(work, unit), unit.replace("/", ":")
         put(f"{self.folder}/work-{work}/logs/{place}.log",
@@ -555,10 +559,12 @@ def again_and_again(tally):
             seen = wait_for(run, lambda it: it["units"]["failed"] == 2)
             tries = {one["unit"]: one["tries"] for one in run.status()["list"]}
             check(tally, "the same, a mark is removed", seen and (tries["lib/c"], tries["tool/h"]) == (1, 2), run.status()["failures"], tries)
-            put(f"{run.folder}/work-1/away", "")
+            put(f"{run.folder}/work-1/away", "no space left\n")
             put(f"{run.folder}/work-0/stop", "")
             states = ["drains", "away", "builds"]
             check(tally, "the same, hosts that begin nothing", wait_for(run, lambda it: [one["state"] for one in it["hosts"]] == states), run.status()["hosts"])
+            told = live.until(lambda: b"host 1 can't build now: no space left" in contents(f"{run.out}/status.txt"), LIMIT)
+            check(tally, "the same, why", told and run.status()["hosts"][1]["why"] == "no space left", run.status()["hosts"][1])
             broken(tally, run)
             tool.send_signal(signal.SIGTERM)
             said = tool.communicate(timeout=LIMIT)
@@ -685,6 +691,8 @@ def odd(tally):
         seconds = next(one.get("seconds") for one in found["list"] if one["unit"] == "base/b")
         check(tally, "the same, a time whose next line isn't whole", seconds == 8, seconds)
     with played() as run:
+        begins(tally, run)
+    with played() as run:
         run.begin(1, "x/o", time.time() - 100)
         _, found = run.run(logs=(1,), works=(1,))
         hosts_of = [(one["host"], one["builds"], one["counts"] is not None) for one in found["hosts"]]
@@ -695,6 +703,22 @@ def odd(tally):
         check(tally, "work folders without a log", named == [("oak", 2), ("elm", 2)], named)
         said, found = run.run(logs=(7,), works=())
         check(tally, "a log that isn't there yet", (said, found["counts"]["Q"], found["hosts"]) == ((b"", b"", 0), 4, []), said, found["counts"])
+
+
+def begins(tally, run):
+    """With a folder of files for jobs that have begun these decide what runs, and since when; logs of failed tries have a folder, too."""
+    run.show_begun(1, "x/o", time.time() - 7000)
+    os.makedirs(f"{run.folder}/work-0/logs/failed")
+    put(f"{run.folder}/work-0/logs/failed/lib:c.log", "of the try that failed\n")
+    put(f"{run.folder}/work-0/logs/lib:c.log", "of another\n")
+    put(f"{run.folder}/work-0/times", "app/f 12.5 1000 0\n")
+    _, found = run.run()
+    by_unit = {one["unit"]: one for one in found["list"]}
+    states = [(one["host"], one["state"]) for unit in ("x/o", "x/n") for one in by_unit[unit]["builders"]]
+    check(tally, "jobs that have begun", states == [(1, "builds"), (2, "claimed"), (1, "queued")], states)
+    check(tally, "since when they have", 7000 <= max(one["seconds"] for one in found["running"]) < 7000 + LIMIT, found["running"])
+    check(tally, "the log of a try that failed", found["failures"][0]["tail"] == ["of the try that failed"], found["failures"][0])
+    check(tally, "how long a build took", by_unit["app/f"]["seconds"] == 12, by_unit["app/f"])
 
 
 # ---- the end, reckoned
@@ -826,6 +850,117 @@ def full(tally):
             print(f"tests/run: a look at {int(told[2]):,} paths and three logs of {size // 1_000_000} MB: {float(told[0]):.2f} s, {int(told[1])} MiB", flush=True)
 
 
+# ---- real nodes
+
+class Seen:
+    """A report beside three hosts that build, each second; and what it said at several moments."""
+
+    def __init__(self, run):
+        self.run, self.folder = run, f"{run.folder}/report"
+        self.moments = []
+
+    def words(self, *more):
+        words = ["--listing", f"{self.run.folder}/listing", "--out", self.folder, "--rest", "5", *more]
+        return [*words, *(word for host in self.run.hosts for word in ("--log", host.log, "--work", host.work))]
+
+    def start(self):
+        self.tool = subprocess.Popen([TOOL, *self.words("--every", "1", "--at-end", f"cat > {self.folder}/mail")], stderr=subprocess.PIPE)
+
+    def look(self):
+        """Keeps a whole copy of the report if its letters are others than at the last look."""
+        copy = f"{self.folder}-{len(self.moments)}"
+        if not os.path.exists(f"{self.folder}/index.html"):
+            return
+        os.mkdir(copy)
+        for name in ("status.js", "index.html"):
+            shutil.copy(f"{self.folder}/{name}", copy)
+        found = json.loads(contents(f"{copy}/status.js")[len("take("):-len(");\n")])
+        if self.moments and self.moments[-1][1]["counts"] == found["counts"]:
+            shutil.rmtree(copy)
+        else:
+            self.moments.append((copy, found))
+
+    def end(self):
+        self.tool.send_signal(signal.SIGTERM)
+        said = self.tool.communicate(timeout=LIMIT)[1]
+        return said, self.tool.returncode
+
+
+def real(tally):
+    """Three real nodes build a tree in which two ports are broken. At each moment that is looked at page, JSON and `dpbr status` agree; so do
+    at the end what the nodes print, what unpack-log finds, and the builds that the drivers began."""
+    if not shutil.which("bmake") or not all(map(os.path.exists, (PROGRAM, live.NODES))):
+        print("tests/run: no bmake, or no dpbr and dpbn here: dpbn-report isn't tried beside real nodes", flush=True)
+        return
+    with live.laid(ports=24, seed=8, broken=2, ignored=1, least=0.2, most=1.2) as run:
+        seen = Seen(run)
+        run.start("--takeover", "2", "--rest", "6")
+        seen.start()
+        try:
+            end = time.monotonic() + live.LIMIT
+            while any(host.node.poll() is None for host in run.hosts) and time.monotonic() < end:
+                seen.look()
+                time.sleep(0.2)
+            check(tally, "three nodes, how they end", run.ends() == [3] * 3, run.told())
+            ended = live.until(lambda: os.path.exists(f"{seen.folder}/mail") and size(f"{seen.folder}/mail"), LIMIT)
+            check(tally, "three nodes, the command at the end", ended)
+            seen.look()
+        finally:
+            said = seen.end()
+        check(tally, "three nodes, the report", said == (b"", 143), said)
+        moments(tally, run, seen)
+        at_rest(tally, run, seen.moments[-1][1])
+
+
+def size(path):
+    return os.path.getsize(path)
+
+
+def moments(tally, run, seen):
+    """What the report said while the nodes built."""
+    fields, optional = table()
+    check(tally, "three nodes, moments that were looked at", len(seen.moments) > 4, len(seen.moments))
+    wrong = [place for place, (_, found) in enumerate(seen.moments) if letters_by_dpbr(run.folder, found) != letters_in(found)]
+    check(tally, "three nodes, letters at each moment", not wrong, wrong, len(seen.moments))
+    wrong = [one for _, found in seen.moments for one in misfits(fields, optional, found, seen=set())]
+    check(tally, "three nodes, status.json at each moment", not wrong, wrong[:5])
+    began = {host.me: contents(host.out("driver")).decode() for host in run.hosts}
+    built = [(one["unit"], one["host"]) for _, found in seen.moments for one in found["running"] if one["state"] == "builds"]
+    wrong = [(unit, host) for unit, host in built if not re.search(f"> {re.escape(unit)}[, ]", began[host])]
+    check(tally, "three nodes, who builds what", built and not wrong, built, wrong)
+    if browser():
+        for copy, found in (seen.moments[len(seen.moments) // 2], seen.moments[-1]):
+            text, console = browse(f"file://{copy}/index.html", "--dump-dom")
+            shown(tally, "three nodes, the page", text, console, found)
+
+
+def at_rest(tally, run, found):
+    """What the report says once all nodes came to rest."""
+    told = [match for host in run.hosts for match in re.findall(rb"node \d: I=(\d+) B=(\d+) Q=(\d+) T=(\d+) !=(\d+)", contents(host.out("node")))[-1:]]
+    own = [tuple(b"%d" % one["counts"][letter] for letter in "IBQT!") for one in found["hosts"]]
+    check(tally, "three nodes, their own letters", told == own, told, own)
+    bad = run.set_broken(mended=False)
+    failed = {one["unit"].partition(",")[0] for one in found["failures"]}
+    check(tally, "three nodes, what failed", failed == set(bad), failed, bad)
+    blocked = sum(len(one["packages"]) for one in found["list"] if one.get("blocked"))
+    check(tally, "three nodes, what is blocked", (blocked, found["state"]) == (found["counts"]["T"], "stopped"), blocked, found["counts"], found["state"])
+    logs = all(one["tail"] and one["log"] for one in found["failures"])
+    check(tally, "three nodes, logs of what failed", logs, found["failures"])
+    held_by_log = {path for host in run.hosts for path in held_paths(run, host)}
+    held_here = {path for one in found["list"] for path, letter in one["packages"].items() if letter in "IB"}
+    check(tally, "three nodes, what is held", held_by_log == held_here, held_by_log ^ held_here)
+    began = {host.me: contents(host.out("driver")).decode() for host in run.hosts}
+    wrong = [(one["unit"], one["host"]) for one in found["list"] if "host" in one and not re.search(f"> {re.escape(one['unit'])}[, ]", began[one["host"]])]
+    check(tally, "three nodes, who built what is held", not wrong, wrong)
+
+
+def held_paths(run, host):
+    """The paths that a host's log holds, by unpack-log."""
+    to = f"{run.folder}/unpacked-{host.me}"
+    packages.tool("unpack-log", host.log, to)
+    return contents(f"{to}/held").decode().split()
+
+
 def run(tally):
-    for part in (stored, as_counted, schema, page, hooks, again_and_again, watched, refused, odd, ends, morning, full):
+    for part in (stored, as_counted, schema, page, hooks, again_and_again, watched, refused, odd, ends, morning, full, real):
         tally.run(f"report, {part.__name__}", part)

@@ -2,7 +2,7 @@
 from __future__ import annotations
 
 import os
-from typing import Dict, Iterator, List, NamedTuple, Optional, Sequence, Set, Tuple
+from typing import Dict, Iterable, Iterator, List, NamedTuple, Optional, Sequence, Set, Tuple
 
 from dpbn_tools import build_times, note_heads
 from dpbn_tools.letters import Letters, Plan
@@ -248,14 +248,18 @@ class Bulk:
         found: Dict[str, float] = {}
         for work in self.works:
             host = self.of_work(work)
-            for took in work.times.builds:
-                number = self.division.number.get(took.unit)
-                if number is not None and (took.unit not in found or self.built_by[number] == host.number):
+            for took in self.named(work.times.builds):
+                if took.unit not in found or self.built_by[self.division.number[took.unit]] == host.number:
                     found[took.unit] = took.seconds
         return found
 
+    def named(self, builds: Iterable[build_times.Took]) -> List[build_times.Took]:
+        """These builds with the names of their units; a line may name a path of a unit, too. Of other units they are left out."""
+        units = [(self.division.unit_of(took.unit), took) for took in builds]
+        return [took._replace(unit=unit.name) for unit, took in units if unit]
+
     def times(self) -> List[build_times.Took]:
-        return [took for work in self.works for took in work.times.builds]
+        return self.named(took for work in self.works for took in work.times.builds)
 
 
 def units_by_place(division: Division) -> Dict[str, str]:

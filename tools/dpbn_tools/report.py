@@ -139,7 +139,8 @@ def reporter_of(asked: argparse.Namespace) -> Reporter:
     logs = asked.logs or [None] * len(asked.work)
     works = [Work(path, by_place, log) for path, log in zip(asked.work, logs)]
     names = asked.names.split(",") if asked.names else []
-    return Reporter(Bulk(division, asked.log, works, names), earlier, asked.rest)
+    bulk = Bulk(division, asked.log, works, names)
+    return Reporter(bulk, bulk.named(earlier), asked.rest)
 
 
 def run(asked: argparse.Namespace, report: Report, signals: Signals) -> None:

@@ -164,6 +164,9 @@ def listed(text: str) -> List[str]:
 
 def problems(status: Object) -> List[str]:
     lines = []
+    for host in status["hosts"]:
+        if host["why"] is not None:
+            lines += listed(f"{host['name']} can't build now: {host['why'] or 'no reason is given'}")
     for circle in status["circles"]:
         lines += listed(f"these wait for each other, and can't be built: {', '.join(circle)}")
     for text in status["problems"]:
