@@ -196,6 +196,8 @@ def as_counted(tally):
         listed = {one["unit"]: one for one in found["list"]}
         check(tally, "the same, what waits", (listed["tool/i"]["waits"], listed["app/g"]["waits"]) == (["lib/d", "tool/h"], ["lib/c"]),
               listed["tool/i"], listed["app/g"])
+        blocked = [listed[it].get("blocked") for it in ("tool/i", "app/e", "x/p")]
+        check(tally, "the same, what blocks", blocked == [["lib/c", "tool/h"], ["lib/c"], None], blocked)
         check(tally, "the same, tries", [listed[it]["tries"] for it in ("tool/h", "lib/c", "base/a", "x/n", "lib/d")] == [2, 1, 1, 1, 0], listed)
         ignored = {"x/l": "IGNORE: only for <vax>", "x/m": "it needs x/l, which is ignored"}
         check(tally, "the same, what is ignored", found["ignored"] == ignored, found["ignored"])
@@ -440,7 +442,8 @@ def page(tally):
         name = "the page as a file"
         text, console = browse(f"file://{run.out}/index.html#tool/i", "--dump-dom")
         texts = shown(tally, name, text, console, found)
-        check(tally, f"{name}, a search", "waits for lib/d, tool/h" in texts.texts.get("found", ""), texts.texts.get("found"))
+        told = "waits for lib/d, tool/h; can't be built before lib/c, tool/h"
+        check(tally, f"{name}, a search", told in texts.texts.get("found", ""), texts.texts.get("found"))
         check(tally, f"{name}, a log", "error: <b>lib/c</b> &" in texts.texts.get("failures", ""), texts.texts.get("failures"))
         text, console = browse(f"file://{run.out}/index.html#x/l", "--dump-dom")
         texts = shown(tally, name, text, console, found)
@@ -942,7 +945,7 @@ def at_rest(tally, run, found):
     bad = run.set_broken(mended=False)
     failed = {one["unit"].partition(",")[0] for one in found["failures"]}
     check(tally, "three nodes, what failed", failed == set(bad), failed, bad)
-    blocked = sum(len(one["packages"]) for one in found["list"] if one.get("blocked"))
+    blocked = sum(len(one["packages"]) for one in found["list"] if "blocked" in one)
     check(tally, "three nodes, what is blocked", (blocked, found["state"]) == (found["counts"]["T"], "stopped"), blocked, found["counts"], found["state"])
     logs = all(one["tail"] and one["log"] for one in found["failures"])
     check(tally, "three nodes, logs of what failed", logs, found["failures"])

@@ -4,7 +4,7 @@ from __future__ import annotations
 from collections import Counter
 from typing import Any, Dict, List, Optional, Sequence, Set, Tuple
 
-from dpbn_tools import bulk, progress, work_folders
+from dpbn_tools import bulk, needs, progress, work_folders
 from dpbn_tools.build_times import Took, Usual
 from dpbn_tools.letters import LETTERS
 from dpbn_tools.needs import Blocked, Chain
@@ -212,7 +212,8 @@ class Reporter:
             found["waits"] = [self.division.units[other].name for other in self.bulk.needs.waits_for(letters, number)]
             found["needs"] = letters.waits[number]
         if number in view.blocked or number in self.bulk.needs.never:
-            found["blocked"] = True
+            blockers = view.blocked.get(number, [])[:needs.MOST_NAMED]
+            found["blocked"] = [self.division.units[it].name for it in blockers]
         return found
 
     def held(self, view: View, number: int) -> Object:
