@@ -61,7 +61,7 @@ def words(tally, run, found):
 def dpbr(tally, run, found):
     """`dpbr status` of the paths that are held has the same letters, path by path."""
     if not os.path.exists(PROGRAM):
-        print("tests/run: no dpbr is built here: dpbn-report isn't compared with it", flush=True)
+        tally.skip("dpbn-report beside dpbr status", "dpbr isn't built here")
         return
     check(tally, "dpbr status of the same", letters_by_dpbr(run.folder, found) == letters_in(found), letters_in(found))
 
@@ -100,7 +100,8 @@ def stored(tally):
 
 
 def run(tally):
-    parts = (stored, as_counted, report_schema.schema, report_page.page, report_runs.hooks, report_runs.again_and_again, report_runs.watched,
-             report_runs.refused, report_runs.odd, report_times.ends, report_times.morning, report_times.full, report_real.real)
+    parts = (stored, as_counted, report_schema.schema, report_page.page, report_runs.hooks, report_runs.again_and_again,
+             report_runs.watched, report_runs.refused, report_runs.odd, report_times.ends, report_times.morning, report_times.full,
+             report_real.real)
     for part in parts:
         tally.run(f"report, {part.__name__}", part)

@@ -113,7 +113,7 @@ def page(tally):
         _, found = run.run()
         plain(tally, run, found)
         if not browser():
-            print("tests/run: no chromium here: dpbn-report's page is not looked at", flush=True)
+            tally.skip("dpbn-report's page in a browser", "there is no chromium here")
             return
         name = "the page as a file"
         text, console = browse(f"file://{run.out}/index.html#tool/i", "--dump-dom")
@@ -163,7 +163,9 @@ def plain(tally, run, found):
     wanted = ["<td>lib/c</td>", "<td>6</td>", "<td>it made no x/k</td>", '<a href="logs/0.lib%3Ac.txt">', "<td>x/n</td>", "x/n &gt; x/p"]
     check(tally, "the page without scripts", all(it in tables for it in wanted), [it for it in wanted if it not in tables], tables)
     check(tally, "the page needs nothing from elsewhere", not re.search(r"""(src|href)=["'](https?:)?//""", text) and "@import" not in text)
-    if shutil.which("w3m"):
+    if not shutil.which("w3m"):
+        tally.skip("dpbn-report's page in a text browser", "there is no w3m here")
+    else:
         done = subprocess.run(["w3m", "-dump", f"{run.out}/index.html"], capture_output=True, timeout=LIMIT)
         said = done.stdout.decode()
         check(tally, "the page in a text browser", "Failures" in said and "tool/h" in said and "Find a path" not in said, said)

@@ -54,7 +54,7 @@ def real(tally):
     """Three real nodes build a tree in which two ports are broken. At each moment that is looked at page, JSON and `dpbr status` agree;
     so do at the end what the nodes print, what unpack-log finds, and the builds that the drivers began."""
     if not shutil.which("bmake") or not all(map(os.path.exists, (PROGRAM, live.NODES))):
-        print("tests/run: no bmake, or no dpbr and dpbn here: dpbn-report isn't tried beside real nodes", flush=True)
+        tally.skip("dpbn-report beside real nodes", "there is no bmake here, or dpbr and dpbn aren't built")
         return
     with live.laid(ports=24, seed=8, broken=2, ignored=1, least=0.2, most=1.2) as run:
         seen = Seen(run)
