@@ -1,6 +1,7 @@
 """tools/dpbn-report: letters beside the stored cases of `dpbr status`, and a played run whose blocked paths were counted by hand. The
 other files of its topic are report_*.py."""
 import os
+import random
 import sys
 
 from topics import report_page, report_real, report_runs, report_schema, report_times
@@ -9,7 +10,7 @@ from topics.tally import PROGRAM, TESTS, TOP, contents, difference
 
 sys.path.insert(0, f"{TOP}/tools")
 
-from dpbn_tools import letters, listings, units  # noqa: E402
+from dpbn_tools import letters, listings, needs, units  # noqa: E402
 
 
 def failures_of(found):
@@ -99,8 +100,69 @@ def stored(tally):
     check(tally, "letters of stored cases", not wrong and compared > 150, wrong, compared)
 
 
+# ---- blocked paths, counted in another way
+
+def built_without(division, held, left_out):
+    """The paths that come to be held if all is built that can be, but for some units: by building again and again whatever can be."""
+    held, run = set(held), division.tree.run
+    while True:
+        able = set(held)
+        while True:
+            fewer = {place for place in able if set(run[place]) <= able}
+            if fewer == able:
+                break
+            able = fewer
+        new = [unit for number, unit in enumerate(division.units)
+               if number not in left_out and unit.places[0] not in held and set(unit.needs) <= able]
+        if not new:
+            return held
+        held.update(place for unit in new for place in unit.places)
+
+
+def random_listing(dice, count):
+    """Paths of which some are built together, some are ignored, and some need each other."""
+    paths = [f"a/p{n}" if dice.random() < 0.7 else f"a/p{n - n % 3},-s{n % 3}" for n in range(count)]
+    paths = list(dict.fromkeys(paths))
+    lines = []
+    for place, path in enumerate(paths):
+        lines.append(f"{path}.FULLPKGNAME=p{place}-1")
+        for variable, odds in (("BUILD", 0.5), ("LIB", 0.3), ("RUN", 0.3)):
+            far = 1.0 if dice.random() < 0.03 else 0.0
+            near = [paths[dice.randrange(place)] for _ in range(dice.randrange(4))] if place and dice.random() < odds else []
+            lines += [f"{path}.{variable}_DEPENDS={' '.join(near + [dice.choice(paths)] * (dice.random() < far))}"]
+        lines += [f"{path}.IGNORE=no"] if dice.random() < 0.02 else []
+    return "\n".join(lines) + "\n"
+
+
+def counted_again(tally):
+    """What units block is what isn't built if all is built but these; so is what can never be built."""
+    wrong, blocked = [], 0
+    for seed in range(60):
+        dice = random.Random(seed)
+        division = units.Division(listings.read(random_listing(dice, 60).encode()))
+        all_needs, shown = needs.Needs(division), letters.Letters(letters.Plan(division))
+        for _ in range(dice.randrange(len(division.units))):
+            able = [number for number in range(len(division.units)) if not shown.is_held(number) and not shown.waits[number]]
+            if able:
+                shown.hold(dice.choice(able))
+        held = {place for place in range(len(division.tree.paths)) if shown.held[place]}
+        most = built_without(division, held, ())
+        never = {number for number, unit in enumerate(division.units) if unit.places[0] not in most}
+        failed = dice.sample([it for it in range(len(division.units)) if not shown.is_held(it)], 3) if len(held) < 40 else []
+        counts, _ = all_needs.blocked(shown, failed)
+        for unit in failed:
+            lost = most - built_without(division, held, (unit,)) - set(division.units[unit].places)
+            alone, by_unit = all_needs.blocked(shown, [unit])
+            # what can never be built isn't lost by that
+            told = {place for number in by_unit if number not in never for place in division.units[number].places}
+            blocked += len(lost)
+            wrong += [] if lost == told and counts[unit] == alone[unit] else [(seed, division.units[unit].name, len(lost), len(told))]
+        wrong += [] if never == all_needs.never else [(seed, "never", never ^ all_needs.never)]
+    check(tally, "blocked paths, counted in another way", not wrong and blocked > 100, wrong[:5], blocked)
+
+
 def run(tally):
-    parts = (stored, as_counted, report_schema.schema, report_page.page, report_runs.hooks, report_runs.again_and_again,
+    parts = (stored, as_counted, counted_again, report_schema.schema, report_page.page, report_runs.hooks, report_runs.again_and_again,
              report_runs.watched, report_runs.refused, report_runs.odd, report_times.ends, report_times.morning, report_times.full,
              report_real.real)
     for part in parts:

@@ -91,7 +91,7 @@ def tell(text: str) -> None:
 
 
 def asked_for(given: Optional[Sequence[str]] = None) -> argparse.Namespace:
-    word = argparse.ArgumentParser(prog="dpbn-report", description="Shows how far a bulk build is.")
+    word = argparse.ArgumentParser(prog="dpbn-report", description="Shows how far a bulk build is.", allow_abbrev=False)
     word.add_argument("--listing", metavar="LISTING", required=True, help="the listing that the nodes have")
     word.add_argument("--single", action="store_true", help="each path is built by itself, as for dpbn --single")
     word.add_argument("--log", metavar="LOG", action="append", default=[], help="the log of a node; any number of times")
