@@ -68,7 +68,9 @@ class Needs:
 
     def masks(self, letters: Letters, units: Sequence[int]) -> List[int]:
         """For each part which of these units it needs, as bits, where what is held needs nothing."""
-        own = {self.part_of[unit]: 1 << bit for bit, unit in enumerate(units)}
+        own: Dict[int, int] = {}
+        for bit, unit in enumerate(units):
+            own[self.part_of[unit]] = own.get(self.part_of[unit], 0) | 1 << bit
         found = [0] * len(self.parts)
         if not units:
             return found
