@@ -77,8 +77,9 @@ def headline(status: Object) -> List[str]:
 
 
 def summary(status: Object) -> List[str]:
-    units, said = status["units"], []
-    said.append(f"{units['held']:,} of {count(units['all'], 'unit')} are built.")
+    units, counts, said = status["units"], status["counts"], []
+    held, wanted = counts["I"] + counts["B"], status["paths"] - counts["!"]
+    said.append(f"{held:,} of {count(wanted, 'path')} are built, by {units['held']:,} of {count(units['all'], 'build')}.")
     said.append(end_of(status))
     if units["failed"]:
         said.append(f"{count(units['failed'], 'unit')} failed, and {count(units['blocked'], 'unit')} can't be built before those.")
