@@ -31,7 +31,7 @@ def hooks(tally):
         _, found = run.run(*more)
         wanted = b"failure runs 3\nend stopped\n"
         check(tally, "a command at the end", (contents(ran), found["state"]) == (wanted, "stopped"), contents(ran), found["state"])
-        said = contents(f"{run.out}/status.txt").decode()
+        said = " ".join(contents(f"{run.out}/status.txt").decode().split())
         check(tally, "the same, in words", "Nothing else can be built before a failure is mended." in said, said)
         for unit in ("lib/c", "lib/d", "app/g", "tool/h", "tool/i", "tool/j", "x/k"):
             run.append(2, held(unit, f"{unit[-1]}-1", 2, "9.2"))
@@ -122,7 +122,7 @@ def broken(tally, run):
     seen = wait_for(run, lambda it: it["problems"] == told and it["counts"]["B"] == 1)
     check(tally, "a log that is cut", seen, run.status()["problems"], told)
     put(path, text[:-1] + b"\1\0\0\0\4\7\0\1x\0")
-    told = [f"{path}: a note's kind or path is none at {len(text) + 4}"]
+    told = [f"{path}: a note's kind or path is wrong at {len(text) + 4}"]
     check(tally, "a note that is none", wait_for(run, lambda it: it["problems"] == told), run.status()["problems"], told)
 
 

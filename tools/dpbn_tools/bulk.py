@@ -191,7 +191,7 @@ class Bulk:
                 self.host(work.member).work = work
 
     def of_work(self, work: Work) -> Host:
-        """The host of a work folder. One that no member is known of stands for itself, after the members."""
+        """The host of a work folder. One of which no member is known counts as a host of its own, after the members."""
         for host in self.hosts.values():
             if host.work is work:
                 return host

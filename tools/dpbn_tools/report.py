@@ -73,20 +73,20 @@ class Report:
         for hook in due:
             self.hooks.start(hook, status, self.words, self.folder.path if self.folder else ".")
         for number in self.hooks.look():
-            tell_hook(number)
+            warn_of(number)
         self.is_over = status["state"] in (FINISHED, STOPPED)
 
     def end(self) -> None:
         for number in self.hooks.end():
-            tell_hook(number)
+            warn_of(number)
 
 
-def tell_hook(status: int) -> None:
+def warn_of(status: int) -> None:
     if status:
-        tell(f"a command ended with status {status}")
+        warn(f"a command ended with status {status}")
 
 
-def tell(text: str) -> None:
+def warn(text: str) -> None:
     print(f"dpbn-report: {text}", file=sys.stderr, flush=True)
 
 
@@ -153,7 +153,7 @@ def run(asked: argparse.Namespace, report: Report, signals: Signals) -> None:
             try:
                 report.look()
             except OSError as error:
-                tell(str(error))
+                warn(str(error))
             if asked.watch:
                 screen.show(report.words)
             if not screen.rest(report.every, signals.is_ended):

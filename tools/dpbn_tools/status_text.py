@@ -36,7 +36,7 @@ def span(seconds: Optional[float]) -> str:
 
 
 def clock(text: Optional[str], form: str = "%a %d %b %H:%M") -> str:
-    """A time of the status, where it is read."""
+    """A time of the status, in the time zone of whoever reads it."""
     seconds = seconds_of(text)
     return "-" if seconds is None else time.strftime(form, time.localtime(seconds))
 

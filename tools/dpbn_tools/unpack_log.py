@@ -255,7 +255,7 @@ def run(asked: argparse.Namespace) -> List[str]:
 def main() -> None:
     asked = options()
     if os.path.lexists(asked.folder):
-        sys.exit(f"unpack-log: {asked.folder} stands already")
+        sys.exit(f"unpack-log: {asked.folder} exists already")
     end_cleanly()
     try:
         lines = run(asked)
