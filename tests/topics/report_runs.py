@@ -225,6 +225,8 @@ def odd(tally):
         _, found = run.run(logs=(1,), works=(1,))
         hosts_of = [(one["host"], one["builds"], one["counts"] is not None) for one in found["hosts"]]
         # by log 1 the greatest claim of tool/h is that of host 0, of which nothing else is known
+        states = [one["state"] for one in found["hosts"]]
+        check(tally, "the same, what the hosts do", states == ["builds", "builds", "unknown"], states)
         check(tally, "one log and its work folder", hosts_of == [(0, 1, False), (1, 2, True), (2, 0, False)], hosts_of)
         _, found = run.run("--names", "oak,elm,fir", logs=(), works=(0, 1))
         named = [(one["name"], one["failed"]) for one in found["hosts"]]

@@ -236,7 +236,9 @@ def state_of(host: bulk.Host, states: Sequence[str]) -> str:
         return "away"
     if BUILDS in states or bulk.CLAIMED in states:
         return "builds"
-    return "waits" if QUEUED in states else "idle"
+    if QUEUED in states:
+        return "waits"
+    return "idle" if host.log or host.work else "unknown"
 
 
 def lines_of(end: bytes) -> List[str]:
