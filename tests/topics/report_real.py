@@ -30,8 +30,8 @@ class Seen:
     def start(self):
         self.tool = subprocess.Popen([TOOL, *self.words("--every", "1", "--at-end", f"cat > {self.folder}/mail")], stderr=subprocess.PIPE)
 
-    def look(self):
-        """Keeps a whole copy of the report if its letters are others than at the last look."""
+    def look(self, is_last=False):
+        """Keeps a whole copy of the report if its letters are others than at the last look, or if it is the last one."""
         copy = f"{self.folder}-{len(self.moments)}"
         if not os.path.exists(f"{self.folder}/index.html"):
             return
@@ -39,7 +39,7 @@ class Seen:
         for name in ("status.js", "index.html"):
             shutil.copy(f"{self.folder}/{name}", copy)
         found = json.loads(contents(f"{copy}/status.js")[len("take("):-len(");\n")])
-        if self.moments and self.moments[-1][1]["counts"] == found["counts"]:
+        if not is_last and self.moments and self.moments[-1][1]["counts"] == found["counts"]:
             shutil.rmtree(copy)
         else:
             self.moments.append((copy, found))
@@ -68,7 +68,7 @@ def real(tally):
             check(tally, "three nodes, how they end", run.ends() == [3] * 3, run.told())
             ended = live.until(lambda: os.path.exists(f"{seen.folder}/mail") and size(f"{seen.folder}/mail"), LIMIT)
             check(tally, "three nodes, the command at the end", ended)
-            seen.look()
+            seen.look(is_last=True)
         finally:
             said = seen.end()
         check(tally, "three nodes, the report", said == (b"", 143), said)
