@@ -117,6 +117,8 @@ def broken(tally, run):
     check(tally, "the same, what the others hold", run.status()["counts"]["I"] == 3, run.status()["counts"])
     os.unlink(path)
     check(tally, "a log that is gone", wait_for(run, lambda it: not it["problems"]), run.status()["problems"])
+    since = [one["unit"] for one in run.status()["list"] if "since" in one]
+    check(tally, "the same, since when the others hold", since == ["x/n"], since)
     put(path, text[:-1] + b"\1\0\0\1\0half")
     told = [f"{path}: the note at {len(text) - 1} isn't whole, so what follows isn't read"]
     seen = wait_for(run, lambda it: it["problems"] == told and it["counts"]["B"] == 1)

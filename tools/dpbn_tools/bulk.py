@@ -76,7 +76,7 @@ class Bulk:
         self.division, self.plan, self.needs = division, Plan(division), Needs(division)
         self.tree = division.tree.digest()
         self.names, self.works = names, works
-        # the place of each log's number among the works, where there are as many of both
+        # the work folder that was given with each log, if there are as many of both
         self.paired = list(works) if len(logs) == len(works) else []
         self.log_paths = list(logs)
         self.has_looked = False
@@ -114,20 +114,38 @@ class Bulk:
             except (note_heads.Bad, OSError, Refused) as error:
                 self.problem(f"{log.path}: {error.strerror if isinstance(error, OSError) else error}")
             if log.age != age and self.has_looked:
-                # another log has its name: what the earlier one said no longer holds
-                self.reset()
-                return self.look(now)
+                self.look_anew(now)
+                return
         for work in self.works:
-            try:
-                work.look()
-            except OSError as error:
-                self.problem(f"{work.path}: {error.strerror}")
-            if work.times.bad:
-                lines = "a line is" if work.times.bad == 1 else f"{work.times.bad} lines are"
-                self.problems.append(f"{work.path}/times: {lines} no 'UNIT SECONDS BYTES HOST'")
+            self.look_into(work)
         self.place_works()
         self.see(now)
         self.has_looked = True
+
+    def look_anew(self, now: float) -> None:
+        """Another log has the name of one that was read: what that said may no longer hold, so all logs are read again. What was seen
+        before stays as old as it is."""
+        held = [self.letters.is_held(unit) for unit in range(len(self.division.units))]
+        since, claims, tries = self.held_since, self.claims, self.tries
+        self.reset()
+        self.look(now)
+        for unit, was_held in enumerate(held):
+            claim, earlier = self.claims[unit], claims[unit]
+            if was_held:
+                self.held_since[unit] = since[unit]
+            if claim and earlier and (claim.round, claim.member) == (earlier.round, earlier.member):
+                self.claims[unit] = earlier
+            self.tries[unit] |= tries[unit]
+
+    def look_into(self, work: Work) -> None:
+        """Takes what is new in one work folder."""
+        try:
+            work.look()
+        except OSError as error:
+            self.problem(f"{work.path}: {error.strerror}")
+        if work.times.bad:
+            lines = "a line is" if work.times.bad == 1 else f"{work.times.bad} lines are"
+            self.problems.append(f"{work.path}/times: {lines} no 'UNIT SECONDS BYTES HOST'")
 
     def problem(self, text: str) -> None:
         if not self.has_looked:
