@@ -163,7 +163,7 @@ def counted_again(tally):
 
 def run(tally):
     parts = (stored, as_counted, counted_again, report_schema.schema, report_page.page, report_runs.hooks, report_runs.again_and_again,
-             report_runs.watched, report_runs.refused, report_runs.odd, report_times.ends, report_times.morning, report_times.full,
-             report_real.real)
+             report_runs.watched, report_runs.refused, report_runs.odd, report_times.ends, report_times.remembered, report_times.morning,
+             report_times.full, report_real.real)
     for part in parts:
         tally.run(f"report, {part.__name__}", part)

@@ -78,6 +78,30 @@ def ends(tally):
         check(tally, "a history of many changes", 100 < len(found["history"]) <= progress.MOST_SAMPLES, len(found["history"]))
 
 
+def remembered(tally):
+    """A report that is started again knows what the one before saw; of another run it takes nothing."""
+    listing = "".join(f"a/{name}.FULLPKGNAME={name}-1\n" for name in "bcde")
+    with tempfile.TemporaryDirectory() as folder:
+        run = Played(folder, listing)
+        run.log(0, [held("a/b", "b-1", 0), promised("a/c", 1, 1), promised("a/d", 1, 1)])
+        name = run.fail(0, "a/e", "status 1", time.time() - 50)
+        _, first = run.run(logs=(0,), works=(0,))
+        os.unlink(f"{folder}/work-0/failed/{name}")
+        for note in (promised("a/d", 2, 1), held("a/d", "d-1", 1, "2.1")):
+            run.append(0, note)
+        time.sleep(1.1)
+        _, second = run.run(logs=(0,), works=(0,))
+        one, other = ({it["unit"]: it for it in found["list"]} for found in (first, second))
+        check(tally, "started again, a claim", one["a/c"]["claim"] == other["a/c"]["claim"], one["a/c"], other["a/c"])
+        told = "since" in other["a/b"], other["a/d"].get("since"), other["a/e"]["tries"], other["a/e"]["failed"] == one["a/e"]["failed"]
+        check(tally, "started again, what is held and what failed", told == (False, second["time"], 1, True), told, second["time"])
+        times = [it["time"] for it in second["history"]]
+        check(tally, "started again, the history", times[:1] == [first["time"]] and len(times) == 2, times)
+        run.log(0, [held("a/c", "c-1", 0)])
+        _, third = run.run(logs=(0,), works=(0,))
+        check(tally, "another run, the history", [it["time"] for it in third["history"]] == [third["time"]], third["history"])
+
+
 def morning(tally):
     """A report that looks for the first time when all is over knows by the logs how the bulk came along."""
     with tempfile.TemporaryDirectory() as folder:
