@@ -56,7 +56,7 @@ class Host:
         """When it was last seen to do something: its log, or what changes with each job and build."""
         times = [self.log.touched] if self.log else []
         if self.work:
-            times += [touched(f"{self.work.path}/{name}") for name in ("jobs", "done", "failed", "build", "times")]
+            times += [touched(f"{self.work.path}/{name}") for name in ("jobs", "done", "failed", "build", "times", "lock")]
             times += [touched(self.work.log_of(unit) or "") for unit in self.work.running]
         known = [it for it in times if it is not None]
         self.seen = min(now, max(known)) if known else None
