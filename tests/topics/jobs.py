@@ -3,14 +3,16 @@ what tools/unpack-log makes of packages whose large files went another way."""
 import hashlib
 import os
 import re
+import shutil
 import signal
 import subprocess
 import tempfile
 import time
 
-from topics import packages
+from topics import job_faults, job_files, job_health, job_limits, job_records, job_reuse, packages
+from topics.nodes import beside
 from topics.played import BUILD, LIMIT, SLOW, TREE, WRITE, Driver, Node, add, has_text, is_alive, laid, name_of, read, until
-from topics.tally import TOP
+from topics.tally import TESTS, TOP
 
 
 def chain(tally):
@@ -319,7 +321,7 @@ def commands(tally):
         add(tally, "a command that isn't there", right, (done.returncode, done.stderr))
 
 
-LARGE = 134_217_728
+LARGE = 33_554_432
 
 
 def stored(folder):
@@ -431,19 +433,37 @@ def words(tally):
             add(tally, f"the words {' '.join(wrong)}", said[2] == 2 and os.listdir(folder) == [], said)
 
 
+def unit_tests(tally):
+    """The parts of the tools one by one, and their types and style, as far as the programs for that are here."""
+    python = "3.8"
+    for name, words in (("pytest", ["-q", "-p", "no:cacheprovider", f"{TESTS}/unit"]), ("mypy", ["--strict", "--python-version", python, "--cache-dir", os.devnull, f"{TOP}/tools/dpbn_tools"]),
+                        ("flake8", ["--max-line-length", "140", f"{TOP}/tools/dpbn_tools", f"{TOP}/tools/build-jobs", f"{TOP}/tools/make-builds"])):
+        found = next((path for path in map(shutil.which, (f"/usr/bin/{name}", name, f"{name}-3")) if path), None)
+        if not found:
+            tally.skip(f"{name} on the tools", f"there is no {name} here")
+            continue
+        done = subprocess.run([found, *words], cwd=TOP, capture_output=True, text=True, timeout=300)
+        tally.add(f"{name} on the tools", "" if done.returncode == 0 else (done.stdout + done.stderr)[-3000:])
+
+
+def first(tally):
+    for one in (words, chain, side_by_side, failures, what_is_no_job, where_it_stands, drivers_that_end):
+        one(tally)
+
+
+def second(tally):
+    for one in (ends_of_builds, nodes_that_go_on, builds_that_misbehave, what_the_system_refuses, commands):
+        one(tally)
+
+
+def third(tally):
+    for one in (odd_jobs, large, stand_ins):
+        one(tally)
+
+
 def run(tally):
-    words(tally)
-    chain(tally)
-    side_by_side(tally)
-    failures(tally)
-    odd_jobs(tally)
-    what_is_no_job(tally)
-    where_it_stands(tally)
-    drivers_that_end(tally)
-    ends_of_builds(tally)
-    nodes_that_go_on(tally)
-    builds_that_misbehave(tally)
-    what_the_system_refuses(tally)
-    commands(tally)
-    large(tally)
-    stand_ins(tally)
+    # what depends on how fast it goes is by itself
+    job_files.many_that_wait(tally)
+    beside(tally, (first, second, third, job_faults.run_third, job_limits.run_second, job_records.run))
+    beside(tally, (unit_tests, job_faults.run_first, job_faults.run_second, job_files.run_first, job_files.run_second, job_limits.run_first,
+                   job_health.run, job_reuse.run))

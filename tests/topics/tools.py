@@ -473,7 +473,7 @@ def in_parts(tally):
 def synced(tally):
     """Each file and folder is synced before the folder has its name, and the name after that."""
     if not shutil.which("strace"):
-        print("tests/run: no strace here: that unpack-log syncs what it writes isn't looked at", flush=True)
+        tally.skip("unpack-log syncs what it writes", "there is no strace here")
         return
     with tempfile.TemporaryDirectory() as folder:
         write(f"{folder}/log", packages.log(packages.NOTES))

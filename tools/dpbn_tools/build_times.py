@@ -12,7 +12,7 @@ LEAST_OF_CATEGORY = 3
 
 
 class Bad(Exception):
-    """A line that is none."""
+    """A line of another form."""
 
     def __init__(self, line: int) -> None:
         super().__init__(f"line {line} is no 'UNIT SECONDS BYTES HOST'")
@@ -45,7 +45,7 @@ def read(text: bytes) -> List[Took]:
 
 
 class Growing:
-    """A file of times to which lines are appended. A line that is none is passed over, and counted."""
+    """A file of times to which lines are appended. A line of another form is passed over, and counted."""
 
     def __init__(self, path: str) -> None:
         self.path, self.at, self.bad = path, 0, 0

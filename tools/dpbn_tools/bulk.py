@@ -2,7 +2,7 @@
 from __future__ import annotations
 
 import os
-from typing import Dict, Iterator, List, NamedTuple, Optional, Sequence, Set, Tuple
+from typing import Dict, Iterable, Iterator, List, NamedTuple, Optional, Sequence, Set, Tuple
 
 from dpbn_tools import build_times, note_heads
 from dpbn_tools.letters import Letters, Plan
@@ -56,7 +56,7 @@ class Host:
         """When it was last seen to do something: its log, or what changes with each job and build."""
         times = [self.log.touched] if self.log else []
         if self.work:
-            times += [touched(f"{self.work.path}/{name}") for name in ("jobs", "done", "failed", "build", "times")]
+            times += [touched(f"{self.work.path}/{name}") for name in ("jobs", "done", "failed", "build", "times", "lock")]
             times += [touched(self.work.log_of(unit) or "") for unit in self.work.running]
         known = [it for it in times if it is not None]
         self.seen = min(now, max(known)) if known else None
@@ -76,7 +76,7 @@ class Bulk:
         self.division, self.plan, self.needs = division, Plan(division), Needs(division)
         self.tree = division.tree.digest()
         self.names, self.works = names, works
-        # the place of each log's number among the works, where there are as many of both
+        # the work folder that was given with each log, if there are as many of both
         self.paired = list(works) if len(logs) == len(works) else []
         self.log_paths = list(logs)
         self.has_looked = False
@@ -114,20 +114,38 @@ class Bulk:
             except (note_heads.Bad, OSError, Refused) as error:
                 self.problem(f"{log.path}: {error.strerror if isinstance(error, OSError) else error}")
             if log.age != age and self.has_looked:
-                # another log has its name: what the earlier one said no longer holds
-                self.reset()
-                return self.look(now)
+                self.look_anew(now)
+                return
         for work in self.works:
-            try:
-                work.look()
-            except OSError as error:
-                self.problem(f"{work.path}: {error.strerror}")
-            if work.times.bad:
-                lines = "a line is" if work.times.bad == 1 else f"{work.times.bad} lines are"
-                self.problems.append(f"{work.path}/times: {lines} no 'UNIT SECONDS BYTES HOST'")
+            self.look_into(work)
         self.place_works()
         self.see(now)
         self.has_looked = True
+
+    def look_anew(self, now: float) -> None:
+        """Another log has the name of one that was read: what that said may no longer hold, so all logs are read again. What was seen
+        before stays as old as it is."""
+        held = [self.letters.is_held(unit) for unit in range(len(self.division.units))]
+        since, claims, tries = self.held_since, self.claims, self.tries
+        self.reset()
+        self.look(now)
+        for unit, was_held in enumerate(held):
+            claim, earlier = self.claims[unit], claims[unit]
+            if was_held:
+                self.held_since[unit] = since[unit]
+            if claim and earlier and (claim.round, claim.member) == (earlier.round, earlier.member):
+                self.claims[unit] = earlier
+            self.tries[unit] |= tries[unit]
+
+    def look_into(self, work: Work) -> None:
+        """Takes what is new in one work folder."""
+        try:
+            work.look()
+        except OSError as error:
+            self.problem(f"{work.path}: {error.strerror}")
+        if work.times.bad:
+            lines = "a line is" if work.times.bad == 1 else f"{work.times.bad} lines are"
+            self.problems.append(f"{work.path}/times: {lines} no 'UNIT SECONDS BYTES HOST'")
 
     def problem(self, text: str) -> None:
         if not self.has_looked:
@@ -191,7 +209,7 @@ class Bulk:
                 self.host(work.member).work = work
 
     def of_work(self, work: Work) -> Host:
-        """The host of a work folder. One that no member is known of stands for itself, after the members."""
+        """The host of a work folder. One of which no member is known counts as a host of its own, after the members."""
         for host in self.hosts.values():
             if host.work is work:
                 return host
@@ -248,14 +266,18 @@ class Bulk:
         found: Dict[str, float] = {}
         for work in self.works:
             host = self.of_work(work)
-            for took in work.times.builds:
-                number = self.division.number.get(took.unit)
-                if number is not None and (took.unit not in found or self.built_by[number] == host.number):
+            for took in self.named(work.times.builds):
+                if took.unit not in found or self.built_by[self.division.number[took.unit]] == host.number:
                     found[took.unit] = took.seconds
         return found
 
+    def named(self, builds: Iterable[build_times.Took]) -> List[build_times.Took]:
+        """These builds with the names of their units; a line may name a path of a unit, too. Of other units they are left out."""
+        units = [(self.division.unit_of(took.unit), took) for took in builds]
+        return [took._replace(unit=unit.name) for unit, took in units if unit]
+
     def times(self) -> List[build_times.Took]:
-        return [took for work in self.works for took in work.times.builds]
+        return self.named(took for work in self.works for took in work.times.builds)
 
 
 def units_by_place(division: Division) -> Dict[str, str]:

@@ -24,8 +24,8 @@ def read(path: str) -> Optional[Dict[str, Any]]:
 
 
 def take(reporter: Reporter, status: Dict[str, Any], now: float) -> bool:
-    """Takes over an earlier status, once the reporter has looked: nothing of it if it is of another run, or if it is none. Answers
-    whether it did."""
+    """Takes over an earlier status, once the reporter has looked: nothing of it if it is of another run, or of another form.
+    Answers whether it did."""
     if status.get("listing") != reporter.bulk.tree.hex():
         return False
     try:

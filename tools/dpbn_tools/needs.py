@@ -68,7 +68,9 @@ class Needs:
 
     def masks(self, letters: Letters, units: Sequence[int]) -> List[int]:
         """For each part which of these units it needs, as bits, where what is held needs nothing."""
-        own = {self.part_of[unit]: 1 << bit for bit, unit in enumerate(units)}
+        own: Dict[int, int] = {}
+        for bit, unit in enumerate(units):
+            own[self.part_of[unit]] = own.get(self.part_of[unit], 0) | 1 << bit
         found = [0] * len(self.parts)
         if not units:
             return found
@@ -81,23 +83,26 @@ class Needs:
             found[part] = mask
         return found
 
-    def blocked(self, letters: Letters, units: Sequence[int]) -> Tuple[Dict[int, Blocked], Set[int]]:
-        """What each of these units blocks, none of which is held, and all units that one of them blocks."""
+    def blocked(self, letters: Letters, units: Sequence[int]) -> Tuple[Dict[int, Blocked], Dict[int, List[int]]]:
+        """What each of these units blocks, none of which is held; and for each unit that one of them blocks, which do."""
         masks, places = self.masks(letters, units), self.division.units
         waiting: "Counter[int]" = Counter()
         held_back: "Counter[int]" = Counter()
-        blocked = set()
+        blocked: Dict[int, List[int]] = {}
+        named: Dict[int, List[int]] = {}
         for unit in range(self.count):
             mask = masks[self.part_of[unit]]
             if mask and not letters.is_held(unit):
                 waiting[mask] += len(places[unit].places)
-                blocked.add(unit)
+                if mask not in named:
+                    named[mask] = [it for bit, it in enumerate(units) if mask >> bit & 1]
+                blocked[unit] = named[mask]
         for place in range(len(self.division.tree.paths)):
             mask = masks[self.part_of[self.count + place]]
             if mask and letters.held[place]:
                 held_back[mask] += 1
         counts = {unit: Blocked(total(waiting, bit) - len(places[unit].places), total(held_back, bit)) for bit, unit in enumerate(units)}
-        return counts, blocked - set(units)
+        return counts, {unit: blockers for unit, blockers in blocked.items() if unit not in counts}
 
     def chain(self, letters: Letters, left_out: Set[int], weight: Callable[[int], float]) -> Chain:
         """The heaviest chain of units that aren't held and aren't left out."""

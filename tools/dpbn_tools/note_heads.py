@@ -49,7 +49,7 @@ class Note(NamedTuple):
 
 
 def header_of(text: bytes) -> Optional[Header]:
-    """The header, or None if there is none yet."""
+    """The header, or None if it isn't there yet."""
     if len(text) < HEADER + 1 or text[0] != 1:
         return None
     members, own = text[41], text[42]
@@ -71,7 +71,7 @@ def note_of(text: bytes, own: int, at: int) -> Note:
     kind, length = text[0], int.from_bytes(text[1:3], "big")
     unit, rest = text[3:3 + length].decode("latin-1"), text[3 + length:]
     if not OPENED <= kind <= HELD or not 1 <= length <= 255 or len(unit) < length:
-        raise Bad(at, "a note's kind or path is none")
+        raise Bad(at, "a note's kind or path is wrong")
     if kind == HELD:
         found = BUILDER.match(rest, 4)
         if not found:
@@ -96,7 +96,7 @@ class Log:
         self.at, self.window, self.start = 0, b"", 0
         # the bytes before `at`, by which a copy of the log is known
         self.before = b""
-        # where a note stands that isn't whole, as in a copy that is being made
+        # the place of a note that isn't whole, as in a copy that is being made
         self.cut: Optional[int] = None
         # rises whenever the file is read anew from its beginning
         self.age = 0

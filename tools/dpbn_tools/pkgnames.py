@@ -80,7 +80,7 @@ def bound(text: str) -> Optional[Tuple[str, Version]]:
 
 
 def alternative(text: str) -> Optional[Alternative]:
-    """One alternative of a specification, or None if the text is none."""
+    """One alternative of a specification, or None if the text isn't one."""
     found = BOUND_BEGINS.search(text)
     stem, bounds, flavors = (text[:found.start()], text[found.end():], []) if found else (text, "*", [])
     if found:
@@ -97,7 +97,7 @@ def alternative(text: str) -> Optional[Alternative]:
 
 
 def spec(text: str) -> Optional[Spec]:
-    """The alternatives of a specification, or None if the text is none."""
+    """The alternatives of a specification, or None if the text isn't one."""
     if not text or len(text) > LONGEST_SPEC:
         return None
     read = [alternative(part) for part in text.split("|")]

@@ -38,7 +38,7 @@ def stamp(seconds: float) -> str:
 
 
 def seconds_of(text: object) -> Optional[float]:
-    """The time that is written so, or None if it is none."""
+    """The time that is written so, or None if it isn't one."""
     try:
         return float(calendar.timegm(time.strptime(text, FORM))) if isinstance(text, str) else None
     except (ValueError, OverflowError):

@@ -73,25 +73,25 @@ class Report:
         for hook in due:
             self.hooks.start(hook, status, self.words, self.folder.path if self.folder else ".")
         for number in self.hooks.look():
-            tell_hook(number)
+            warn_of(number)
         self.is_over = status["state"] in (FINISHED, STOPPED)
 
     def end(self) -> None:
         for number in self.hooks.end():
-            tell_hook(number)
+            warn_of(number)
 
 
-def tell_hook(status: int) -> None:
+def warn_of(status: int) -> None:
     if status:
-        tell(f"a command ended with status {status}")
+        warn(f"a command ended with status {status}")
 
 
-def tell(text: str) -> None:
+def warn(text: str) -> None:
     print(f"dpbn-report: {text}", file=sys.stderr, flush=True)
 
 
 def asked_for(given: Optional[Sequence[str]] = None) -> argparse.Namespace:
-    word = argparse.ArgumentParser(prog="dpbn-report", description="Shows how far a bulk build is.")
+    word = argparse.ArgumentParser(prog="dpbn-report", description="Shows how far a bulk build is.", allow_abbrev=False)
     word.add_argument("--listing", metavar="LISTING", required=True, help="the listing that the nodes have")
     word.add_argument("--single", action="store_true", help="each path is built by itself, as for dpbn --single")
     word.add_argument("--log", metavar="LOG", action="append", default=[], help="the log of a node; any number of times")
@@ -139,7 +139,8 @@ def reporter_of(asked: argparse.Namespace) -> Reporter:
     logs = asked.logs or [None] * len(asked.work)
     works = [Work(path, by_place, log) for path, log in zip(asked.work, logs)]
     names = asked.names.split(",") if asked.names else []
-    return Reporter(Bulk(division, asked.log, works, names), earlier, asked.rest)
+    bulk = Bulk(division, asked.log, works, names)
+    return Reporter(bulk, bulk.named(earlier), asked.rest)
 
 
 def run(asked: argparse.Namespace, report: Report, signals: Signals) -> None:
@@ -152,7 +153,7 @@ def run(asked: argparse.Namespace, report: Report, signals: Signals) -> None:
             try:
                 report.look()
             except OSError as error:
-                tell(str(error))
+                warn(str(error))
             if asked.watch:
                 screen.show(report.words)
             if not screen.rest(report.every, signals.is_ended):

@@ -4,7 +4,7 @@ from __future__ import annotations
 from collections import Counter
 from typing import Any, Dict, List, Optional, Sequence, Set, Tuple
 
-from dpbn_tools import bulk, progress, work_folders
+from dpbn_tools import bulk, needs, progress, work_folders
 from dpbn_tools.build_times import Took, Usual
 from dpbn_tools.letters import LETTERS
 from dpbn_tools.needs import Blocked, Chain
@@ -143,7 +143,8 @@ class Reporter:
     def host(self, view: View, host: bulk.Host) -> Object:
         states = [builder.state for builders in self.bulk.builders.values() for builder in builders if builder.host == host.number]
         return {
-            "host": host.number, "name": host.name, "state": state_of(host, states), "seen": host.seen and stamp(host.seen),
+            "host": host.number, "name": host.name, "state": state_of(host, states), "why": host.work.away if host.work else None,
+            "seen": None if host.seen is None else stamp(host.seen),
             "counts": dict(host.letters.counts) if host.letters else None, "builds": states.count(BUILDS) + states.count(bulk.CLAIMED),
             "queued": states.count(QUEUED), "built": view.built[host.number],
             "failed": sum(failure.host == host.number for failure in self.bulk.failures),
@@ -167,7 +168,7 @@ class Reporter:
 
     def failure(self, failure: bulk.Failure, blocks: Blocked) -> Object:
         unit = self.division.units[failure.unit].name
-        path = failure.work.log_of(unit, failure.mark.log)
+        path = failure.work.failed_log(unit, failure.mark.log)
         end = self.ends.of(path) if path else b""
         copy = f"logs/{failure.host}.{work_folders.place_of(unit)}.txt" if end else None
         if copy:
@@ -211,7 +212,8 @@ class Reporter:
             found["waits"] = [self.division.units[other].name for other in self.bulk.needs.waits_for(letters, number)]
             found["needs"] = letters.waits[number]
         if number in view.blocked or number in self.bulk.needs.never:
-            found["blocked"] = True
+            blockers = view.blocked.get(number, [])[:needs.MOST_NAMED]
+            found["blocked"] = [self.division.units[it].name for it in blockers]
         return found
 
     def held(self, view: View, number: int) -> Object:
@@ -230,11 +232,13 @@ def state_of(host: bulk.Host, states: Sequence[str]) -> str:
     """What a host does, in a word."""
     if host.work and host.work.is_draining:
         return "drains"
-    if host.work and host.work.is_away:
+    if host.work and host.work.away is not None:
         return "away"
     if BUILDS in states or bulk.CLAIMED in states:
         return "builds"
-    return "waits" if QUEUED in states else "idle"
+    if QUEUED in states:
+        return "waits"
+    return "idle" if host.log or host.work else "unknown"
 
 
 def lines_of(end: bytes) -> List[str]:

@@ -36,7 +36,7 @@ def span(seconds: Optional[float]) -> str:
 
 
 def clock(text: Optional[str], form: str = "%a %d %b %H:%M") -> str:
-    """A time of the status, where it is read."""
+    """A time of the status, in the time zone of whoever reads it."""
     seconds = seconds_of(text)
     return "-" if seconds is None else time.strftime(form, time.localtime(seconds))
 
@@ -77,8 +77,9 @@ def headline(status: Object) -> List[str]:
 
 
 def summary(status: Object) -> List[str]:
-    units, said = status["units"], []
-    said.append(f"{units['held']:,} of {count(units['all'], 'unit')} are built.")
+    units, counts, said = status["units"], status["counts"], []
+    held, wanted = counts["I"] + counts["B"], status["paths"] - counts["!"]
+    said.append(f"{held:,} of {count(wanted, 'path')} are built, by {units['held']:,} of {count(units['all'], 'build')}.")
     said.append(end_of(status))
     if units["failed"]:
         said.append(f"{count(units['failed'], 'unit')} failed, and {count(units['blocked'], 'unit')} can't be built before those.")
@@ -164,6 +165,9 @@ def listed(text: str) -> List[str]:
 
 def problems(status: Object) -> List[str]:
     lines = []
+    for host in status["hosts"]:
+        if host["why"] is not None:
+            lines += listed(f"{host['name']} can't build now: {host['why'] or 'no reason is given'}")
     for circle in status["circles"]:
         lines += listed(f"these wait for each other, and can't be built: {', '.join(circle)}")
     for text in status["problems"]:

@@ -1,7 +1,7 @@
 """The units of a tree: what one build makes, and what each of them needs; and the paths that are ignored, with the reason."""
 from __future__ import annotations
 
-from typing import Dict, List, NamedTuple
+from typing import Dict, List, NamedTuple, Optional
 
 from dpbn_tools.listings import Tree
 
@@ -53,3 +53,8 @@ class Division:
                     self.unit_at[place] = len(self.units)
                 self.units.append(unit_of(tree, group, rest))
         self.number = {unit.name: number for number, unit in enumerate(self.units)}
+
+    def unit_of(self, text: str) -> Optional[Unit]:
+        """The unit that a text names, by its own name or by one of its paths."""
+        number = self.number.get(text, self.unit_at[self.tree.place[text]] if text in self.tree.place else -1)
+        return self.units[number] if number >= 0 else None

@@ -227,7 +227,8 @@ def end_cleanly() -> None:
 
 
 def options() -> argparse.Namespace:
-    words = argparse.ArgumentParser(prog="unpack-log", description="Writes out the packages that the node of a log holds.")
+    words = argparse.ArgumentParser(prog="unpack-log", description="Writes out the packages that the node of a log holds.",
+                                    allow_abbrev=False)
     words.add_argument("--store", metavar="STORE", help="has the files that went as name, size and SHA-256, each named by that")
     words.add_argument("--link", action="store_true", help="such files get a second name in place of a copy, where that can be had")
     words.add_argument("--flat", action="store_true", help="all files are put into DIR itself, as in a folder of packages for pkg_add(1)")
@@ -254,7 +255,7 @@ def run(asked: argparse.Namespace) -> List[str]:
 def main() -> None:
     asked = options()
     if os.path.lexists(asked.folder):
-        sys.exit(f"unpack-log: {asked.folder} stands already")
+        sys.exit(f"unpack-log: {asked.folder} exists already")
     end_cleanly()
     try:
         lines = run(asked)

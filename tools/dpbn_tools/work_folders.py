@@ -110,13 +110,15 @@ class Work:
         # `units` has each unit by what its files are named
         self.path, self.units, self.logs = path, units, logs or f"{path}/logs"
         self.names = set(units.values())
-        self.folders = {part: Folder(f"{path}/{part}") for part in ("jobs", "done", "failed")}
+        self.folders = {part: Folder(f"{path}/{part}") for part in ("jobs", "done", "failed", "begun")}
         self.jobs: Dict[str, Job] = {}
         self.marks: Dict[str, Mark] = {}
         self.times = build_times.Growing(f"{path}/times")
         self.running: Dict[str, float] = {}
         self.member: Optional[int] = None
-        self.is_away = self.is_draining = False
+        self.is_draining = False
+        # why the host can't build now, if it can't
+        self.away: Optional[str] = None
 
     def look(self) -> None:
         """One look at all of it. What the system refuses is raised, and may be tried again."""
@@ -132,10 +134,20 @@ class Work:
         for name, since in new:
             with contextlib.suppress(FileNotFoundError):
                 self.marks[name] = self.mark(name, since)
-        self.folders["done"].changes()
+        for part in ("done", "begun"):
+            self.folders[part].changes()
         self.times.look()
-        self.running = self.builds()
-        self.is_away, self.is_draining = (os.path.lexists(f"{self.path}/{name}") for name in ("away", "stop"))
+        self.running = self.begun() if os.path.isdir(f"{self.path}/begun") else self.builds()
+        self.is_draining = os.path.lexists(f"{self.path}/stop")
+        self.away = self.reason("away")
+
+    def reason(self, name: str) -> Optional[str]:
+        """What the first line of a file says, if the file is there."""
+        try:
+            text, _ = parts_of(f"{self.path}/{name}", MARK, 0)
+        except OSError:
+            return None
+        return text_of(text.partition("\n")[0].encode("latin-1")).strip()
 
     def take_job(self, name: str, since: float) -> None:
         front, end = parts_of(f"{self.path}/jobs/{name}", FRONT, END)
@@ -157,11 +169,20 @@ class Work:
             unit, reason = job.unit if job else "", first
         return Mark(unit or None, text_of(reason.encode("latin-1")).strip() or "no reason is given", log, since)
 
-    def builds(self) -> Dict[str, float]:
-        """The units of which a build runs, and since when: each has a folder of its own as long as it does."""
-        found: Dict[str, float] = {}
+    def open_jobs(self) -> Dict[str, Job]:
+        """The jobs that have no answer."""
         answered = {*self.folders["failed"].seen, *self.folders["done"].seen}
-        wanted = {job.unit for name, job in self.jobs.items() if name not in answered}
+        return {name: job for name, job in self.jobs.items() if name not in answered}
+
+    def begun(self) -> Dict[str, float]:
+        """The units of which a build runs, and since when: each of these jobs has a file that says so."""
+        seen = self.folders["begun"].seen
+        return {job.unit: seen[name][0] / 1e9 for name, job in self.open_jobs().items() if name in seen}
+
+    def builds(self) -> Dict[str, float]:
+        """The same by the folders of builds, if the driver writes no such files."""
+        found: Dict[str, float] = {}
+        wanted = {job.unit for job in self.open_jobs().values()}
         try:
             with os.scandir(f"{self.path}/build") as entries:
                 for entry in entries:
@@ -185,9 +206,14 @@ class Work:
             else:
                 yield job.unit, QUEUED, job.since
 
-    def log_of(self, unit: str, named: Optional[str] = None) -> Optional[str]:
-        """Where the log of a unit is: by the name that a mark has for it, or by the unit's."""
-        for name in (named, f"{place_of(unit)}.log"):
-            if name and os.path.isfile(f"{self.logs}/{name}"):
-                return f"{self.logs}/{name}"
-        return None
+    def log_of(self, unit: str) -> Optional[str]:
+        """Where the log of the last build is."""
+        return self.first_log(f"{place_of(unit)}.log")
+
+    def failed_log(self, unit: str, named: Optional[str]) -> Optional[str]:
+        """Where the log of a build that failed is: by the name that the mark has for it, or by the unit's."""
+        names = [name for name in (named, f"{place_of(unit)}.log") if name]
+        return self.first_log(*(f"failed/{name}" for name in names), *names)
+
+    def first_log(self, *names: str) -> Optional[str]:
+        return next((f"{self.logs}/{name}" for name in names if os.path.isfile(f"{self.logs}/{name}")), None)

@@ -17,7 +17,7 @@ from dpbn_tools.driver.health import Health
 from dpbn_tools.driver.held import Held
 from dpbn_tools.driver.job import NAME, Job, NoJob, text_of_job
 from dpbn_tools.driver.layout import Changed, Layout
-from dpbn_tools.driver.limits import WORDS, Limits
+from dpbn_tools.driver.limits import WORDS, BadLimits, Limits
 from dpbn_tools.driver.lines import Lines
 from dpbn_tools.driver.names import Listed
 from dpbn_tools.driver.posted import Earlier, Posted
@@ -28,8 +28,8 @@ from dpbn_tools.driver.tasks import Tasks
 from dpbn_tools.driver.times import Times
 from dpbn_tools.driver.workfolder import Replaced, WorkFolder
 
-# how long is waited between two looks, in seconds: while something goes on, and else
-BUSY, IDLE = 0.02, 0.05
+# how long is waited between two looks, in seconds: for so many seconds after something went on, and else
+BUSY, LONGEST_BUSY, IDLE = 0.02, 5, 0.05
 # before what the system refused is tried again, in seconds
 PATIENCE = 5
 # how often the files of a job that waits are looked at, and the free disk, in seconds
@@ -67,9 +67,11 @@ class Driver:
         self.odd: Dict[str, float] = {}
         self.due: Dict[str, float] = {}
         self.bad: Optional[BadLog] = None
-        self.free, self.free_due = 0, 0.0
+        # how much disk is free, and how much the last job wanted that didn't begin since there was less
+        self.free, self.free_due, self.least = 0, 0.0, 0
         self.keep_due, self.clear_due = 0.0, 0.0
         self.is_stopped = self.is_ending = False
+        self.busy_until = 0.0
         self.began = time.monotonic()
 
     # ---- before the first look
@@ -120,14 +122,19 @@ class Driver:
             raise
         except Exception as error:  # pylint: disable=broad-except
             self.due[name] = time.monotonic() + PATIENCE
-            text = str(error) if isinstance(error, (OSError, ValueError)) else f"{type(error).__name__}: {error}"
+            text = str(error) if isinstance(error, (OSError, BadLimits)) else f"{type(error).__name__}: {error}"
             self.lines.tell_once(f"? it goes on in a while: {text}", (name, type(error), getattr(error, "errno", None)))
 
     def wait(self) -> None:
         """Waits until something may have happened."""
         numbers = [self.tasks.reads, *(number for number in self.reports() if number >= 0)]
-        is_busy = bool(self.jobs) or self.tasks.running > 0
-        select.select(numbers, [], [], BUSY if is_busy else IDLE)
+        woken, _, _ = select.select(numbers, [], [], BUSY if time.monotonic() < self.busy_until else IDLE)
+        if woken or self.tasks.running:
+            self.is_busy()
+
+    def is_busy(self) -> None:
+        """Something goes on, so that more may in a moment."""
+        self.busy_until = time.monotonic() + LONGEST_BUSY
 
     def reports(self) -> List[int]:
         """The pipes of commands that run."""
@@ -158,6 +165,7 @@ class Driver:
         came = [posted for posted in map(self.taken, names - set(self.jobs)) if posted]
         for posted in sorted(came, key=lambda it: it[0]):
             self.jobs[posted[1].job.name] = posted[1]
+            self.is_busy()
         for name, posted_job in list(self.jobs.items()):
             if posted_job.job.unit in self.held.units:
                 self.drop(name, "another node built it")
@@ -221,7 +229,9 @@ class Driver:
                 self.lines.tell(f"= a build that can't be ended goes on in {build.folder}")
         if build.state is State.OVER and not build.is_busy:
             self.check_posted(build)
-            self.endings.go_on(build)
+            # one of an earlier run waits for its job
+            if build.command or build.is_reused or build.dropped or build.job.name in self.jobs:
+                self.endings.go_on(build)
 
     def check_posted(self, build: Build) -> None:
         """Ends a build of an earlier run for which there is no job any more."""
@@ -269,16 +279,20 @@ class Driver:
         if not self.health.is_due(str(posted.job)):
             return False
         least = self.limits.of(posted.job, "free")
-        if least is None:
-            return True
+        why = self.lacking_disk(least or 0)
+        if why:
+            self.lines.tell_once(f"~ {posted.job} doesn't begin: {why}", ("free", least))
+            self.least = least or 0
+        self.health.set_short(why)
+        return not why
+
+    def lacking_disk(self, least: int) -> str:
+        """Why there is too little free disk, if there is."""
+        if not least:
+            return ""
         if time.monotonic() >= self.free_due:
             self.free, self.free_due = self.layout.free_bytes(), time.monotonic() + FREE_EACH
-        is_short = self.free < least
-        why = f"{self.free} bytes of disk are free, and {least} have to be" if is_short else ""
-        if is_short:
-            self.lines.tell_once(f"~ {posted.job} doesn't begin: {why}", ("free", least))
-        self.health.set_short(why)
-        return not is_short
+        return f"{self.free} bytes of disk are free, and {least} have to be" if self.free < least else ""
 
     def is_ready(self, posted: Posted, may_begin: bool) -> bool:
         """Whether all that the job is to be built on is here."""
@@ -385,6 +399,9 @@ class Driver:
             self.fetches.keep_only([digest for posted in self.jobs.values() for digest in posted.unsure])
             self.odd = {name: due for name, due in self.odd.items() if due > now - PATIENCE}
             self.health.keep_only({str(posted.job) for posted in self.jobs.values()})
+            if self.health.short and not self.jobs:
+                # the node gave them all to others, so that none is there to be asked for
+                self.health.set_short(self.lacking_disk(self.least))
         if now >= self.clear_due:
             self.clear_due = now + 3600
             self.tasks.start(self.clear_stores, lambda _, __: None)
