@@ -257,6 +257,8 @@ def cancelled(tally, how: str, is_deaf: bool) -> None:
             broken_client(place)
             status: Optional[int] = place.ended()
             problem = place.is_quiet() or ("" if status == 0 else f"status {status}; {place.log()[-300:]}")
+            # the killed build left its mark
+            os.remove(f"{place.hosts}/ob2/twice")
             tally.add(f"build-over-ssh, {how}", problem or built(place))
             return
         end(place, driver, how)
@@ -398,7 +400,7 @@ def run(tally) -> None:
     parts = [(a_build,), (statuses,), (refused,), (away,), (free_places,), (one_at_a_time,), (real,)]
     parts += [(cancelled, how, is_deaf) for how in ("cancelled", "a timeout", "killed with its group", "killed alone") for is_deaf in (False, True)]
     parts += [(cancelled, how, False) for how in ("a killed driver", "a killed driver, outlived", "a killed ssh")]
-    parts += [(broken_line, step, count, how) for step, count in (("begin", 0), ("begin", 100), ("take", 1000), ("run", 300), ("run", 800), ("out", 0), ("out", 1000))
+    parts += [(broken_line, step, count, how) for step, count in (("begin", 0), ("begin", 100), ("take", 1000), ("run", 300), ("run", 580), ("out", 0), ("out", 1000))
               for how in ("close", "silent")]
     with concurrent.futures.ThreadPoolExecutor(6) as pool:
         for done in [pool.submit(tally.run, f"build-over-ssh {part[0].__name__}", *part) for part in parts]:
