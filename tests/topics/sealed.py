@@ -204,8 +204,11 @@ def keys(tally):
             tally.add(f"the key {name}", difference(got, refused(wanted) if wanted else (node_line(0, q=1), NOTHING, 0)))
             tally.add(f"the logs with the key {name}", "" if bool(logs_in(folder)) == (not wanted) else f"{sorted(logs_in(folder))}")
         os.mkdir(f"{folder}/private", 0o700)
-        for name, wanted in (("none", 2), ("private", 2), ("logs", 1208)):
+        os.mkfifo(f"{folder}/fifo", 0o600)
+        for name, wanted in (("none", 2), ("private", 2), ("logs", 2), ("fifo", 2)):
             tally.add(f"the key {name}", difference(answer(node_words(0, 0, keyed(port, name)), folder), refused(wanted)))
+        listing = ["--listing", "fifo", *SHARED[2:]]
+        tally.add("a listing that is a FIFO", difference(answer(node_words(0, 0, keyed(port), listing), folder), refused(2)))
 
 
 # ---- logs and run files
@@ -228,7 +231,11 @@ def runs(tally):
         port = free_ports(1)
         words = keyed(port)
         first = node_words(0, 0, words)
-        stays(tally, folder, "--continue, where nothing stands", [*first, "--continue"], 1008)
+        stays(tally, folder, "--continue, without a log and a run file", [*first, "--continue"], 1008)
+        lay_logs(folder)
+        put(f"{folder}/logs/node-0.log", b"")
+        stays(tally, folder, "--continue, with an empty log and no run file", [*first, "--continue"], 1008)
+        os.remove(f"{folder}/logs/node-0.log")
         three = [begun(folder, me, words) for me in range(3)]
         held = [has_told(folder, me, node_line(me, i=1)[:-1]) for me in range(3)]
         for node in three:

@@ -12,7 +12,7 @@ from __future__ import annotations
 import hashlib
 import os
 import re
-from typing import BinaryIO, Callable, Iterator, List, NamedTuple, Optional, Sequence, Tuple
+from typing import BinaryIO, Callable, Container, Iterator, List, NamedTuple, Optional, Sequence, Tuple
 
 from dpbn_tools.paths import DIGEST, NUMBER, group_of, is_file_name, is_name, is_path, is_signature
 
@@ -313,21 +313,24 @@ class LogFile:
             self.at = self.header.end
         return True
 
-    def notes(self) -> Iterator[Note]:
+    def notes(self, kinds: Container[int] = (OPENED, PROMISED, VOTED, HELD)) -> Iterator[Note]:
         """The notes that weren't read yet, up to the closed gate. A note that was yielded counts as read once the next one is asked
-        for, so that a reader who fails gets it again."""
+        for, so that a reader who fails gets it again. Notes of other kinds than these are skipped, and what is in them isn't read."""
         while self.has_header():
-            head = self.read(self.at, 5)
+            head = self.read(self.at, 6)
             if head[:1] != b"\1":
                 if not head:
                     raise BadLog(self.at, "a gate isn't whole")
                 return
-            size = int.from_bytes(head[1:], "big")
-            if len(head) == 5 and size > MAX_NOTE:
+            size = int.from_bytes(head[1:5], "big")
+            if len(head) >= 5 and size > MAX_NOTE:
                 raise BadLog(self.at + 1, f"a note's length is {size}")
+            if len(head) == 6 and size > 0 and head[5] in (OPENED, PROMISED, VOTED, HELD) and head[5] not in kinds:
+                self.at += 5 + size
+                continue
             # the note and the gate that follows it
-            data = self.read(self.at + 5, size + 1)
-            if len(head) < 5 or len(data) <= size:
+            data = self.read(self.at + 5, size + 1) if len(head) >= 5 else b""
+            if len(data) <= size or len(head) < 5:
                 raise BadLog(self.at, "a note isn't whole")
             yield read_note(Reader(data[:size], self.at + 5))
             self.at += 5 + size

@@ -5,6 +5,7 @@ ghost use Rattle.seals.specs.KeyText.{WritesKey};
 
 use crate::fault::KeyFault;
 use seals::key_of_text;
+use std::fs;
 use std::fs::File;
 use std::io::Read;
 use std::os::unix::fs::MetadataExt;
@@ -20,11 +21,16 @@ const OF_OTHERS: u32 = 0o77;
 ///
 /// # Errors
 ///
-/// The system's refusal; that of the mode; that of the text. In this order.
+/// The system's refusal, also if it is not a regular file; that of the mode; that of the text. In
+/// this order.
 pub fn key_of_file(rt: &HostRuntime, file: &str) -> Result<[u8; 32], KeyFault>
     ensures key { IfOk result IsWritten }
     ensures refused { IfErr result RefusesKey }
 {
+    // Opening a FIFO would wait for a writer.
+    if !fs::metadata(rt, file)?.is_file() {
+        return Err(KeyFault::Files);
+    }
     let file = File::open(rt, file)?;
     test_mode(file.metadata()?.mode())?;
     let mut text = Vec::new(rt.alloc());

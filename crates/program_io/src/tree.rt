@@ -8,6 +8,7 @@ use crate::named::{NamedTexts, SystemFiles};
 use crate::refusal::Refusal;
 use listing::{ListingFault, Tree};
 use std::alloc::Global;
+use std::fs;
 use std::rt::Files;
 
 /// The tree that the listing describes; each path is a group of its own, or not.
@@ -41,11 +42,11 @@ pub fn tree_of_name<T: NamedTexts>(
     Ok(tree)
 }
 
-/// The tree that the listing in a file describes.
+/// The tree that the listing in a regular file describes.
 ///
 /// # Errors
 ///
-/// What the system refused; else the listing's fault.
+/// What the system refused, also if it is not a regular file; else the listing's fault.
 pub fn tree_of_file<R: Files + AllocGlobal>(
     rt: &R,
     listing: &str,
@@ -54,5 +55,9 @@ pub fn tree_of_file<R: Files + AllocGlobal>(
     ensures ok { IfOk result (IsDescribed is_single) }
     ensures refused { IfErr result (RefusesListingFile is_single) }
 {
+    // Opening a FIFO would wait for a writer.
+    if !fs::metadata(rt, listing)?.is_file() {
+        return Err(Refusal::device());
+    }
     tree_of_name(&SystemFiles::of(rt), rt.alloc(), listing, is_single)
 }

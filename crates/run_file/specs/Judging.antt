@@ -22,13 +22,14 @@ abbrev pub with_other_run : ℕ → LogFound → Result Plan RunFault
 with_other_run line Absent = Err Lost
 with_other_run line _ = Err (Differs line)
 
--- If there is no run file: a missing log is created, unless the run is continued; an existing log
--- is opened, unless it has notes and the run has a key. Notes without a run file are from a run
--- without a key that wrote none.
+-- If there is no run file: a log that is missing or blank is created, unless the run is continued;
+-- any other log is opened, unless it has notes and the run has a key. Notes without a run file are
+-- from a run without a key that wrote none.
 abbrev pub without_run : Bool → Bool → LogFound → Result Plan RunFault
 without_run has_key true Absent = Err NothingThere
 without_run has_key false Absent = Ok Make
-without_run has_key is_continued Blank = Ok Write
+without_run has_key true Blank = Err NothingThere
+without_run has_key false Blank = Ok Write
 without_run has_key is_continued Fresh = Ok Write
 without_run true is_continued Noted = Err (Differs 0)
 without_run false is_continued Noted = Ok Write

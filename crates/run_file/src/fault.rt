@@ -20,7 +20,7 @@ pub enum RunFault {
     /// There is a run file, but its log is missing, or is empty and would be made anew.
     #[error("the member's log is lost")]
     Lost,
-    /// A run should be continued, but there is neither a log nor a run file.
+    /// A run should be continued, but there is no run file, and the log is missing or blank.
     #[error("there is no run to continue")]
     NothingThere,
 }

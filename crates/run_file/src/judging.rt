@@ -38,7 +38,8 @@ pub enum Plan {
 /// - `Lost` if there is a run file but no log, or if the run file is of this run and the log is
 ///   blank.
 /// - `Differs` if there is a log, and the run file is of another run.
-/// - `NothingThere` if the run should be continued, and there is neither a run file nor a log.
+/// - `NothingThere` if the run should be continued, there is no run file, and the log is missing or
+///   blank.
 /// - `Differs(0)` if the run has a key, and the log has notes but no run file.
 pub fn judge(
     run: Option<&[u8]>,
@@ -84,7 +85,7 @@ fn without_run(log: LogFound, has_key: bool, is_continued: bool) -> Result<Plan,
     ensures { result ≡ without_run has_key is_continued log }
 {
     match log {
-        LogFound::Absent if is_continued => Err(RunFault::NothingThere),
+        LogFound::Absent | LogFound::Blank if is_continued => Err(RunFault::NothingThere),
         LogFound::Absent => Ok(Plan::Make),
         LogFound::Noted if has_key => Err(RunFault::Differs(0)),
         LogFound::Blank | LogFound::Fresh | LogFound::Noted => Ok(Plan::Write),
