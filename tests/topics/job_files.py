@@ -171,7 +171,7 @@ def another_file_system(tally):
     """A store on another file system than the work folder: its files are copied, beside the loop, and that is told once."""
     place = next((path for path in ("/dev/shm", "/var/tmp", "/home") if os.access(path, os.W_OK) and os.stat(path).st_dev != os.stat("/tmp").st_dev), None)
     if not place:
-        print("tests/run: build-jobs: there is no second file system here to have a store on", flush=True)
+        tally.skip("build-jobs, a store on another file system", "there is no second file system here to write on")
         return
     with node_alone() as node, node_alone(place) as other:
         node.hold("a/b", {"a/b": large_file("x", b"good")}, host=0)

@@ -20,7 +20,7 @@ def limits(tally):
     fails(tally, "takes too long", "it took longer than 1 s", "sleep 1000", "--limit", "1")
     fails(tally, "prints nothing", "it printed nothing for 1 s", "echo begun; sleep 1000", "--silent", "1")
     log = fails(tally, "prints too much", "it printed more than 100000 bytes", "yes 'warning: something'; true", "--log-bytes", "100000")
-    add(tally, "a log that is too long", 100_000 <= len(log) < 101_000 and log.endswith("\n## the log is cut here\n"), len(log))
+    add(tally, "a log that is too long", 100_000 <= len(log) < 102_000 and log.endswith("\n## the log is cut here\n"), len(log))
     fails(tally, "makes too much", "it made 5000 bytes, and may make 4999", 'mkdir "$OUT/a:b" && head -c 5000 /dev/zero > "$OUT/a:b/x"', "--out-bytes", "4999")
     with laid('for n in 1 2 3 4 5 6; do echo $n; sleep 0.5; done; ' + MAKE, "--silent", "2", "--limit", "50", "--log-bytes", "1000", "--out-bytes", "2") as (node, driver):
         add(tally, "a build within its limits", bool(node.take(node.post("a/b"))), driver.lines())

@@ -440,7 +440,7 @@ def unit_tests(tally):
                         ("flake8", ["--max-line-length", "140", f"{TOP}/tools/dpbn_tools", f"{TOP}/tools/build-jobs", f"{TOP}/tools/make-builds"])):
         found = next((path for path in map(shutil.which, (f"/usr/bin/{name}", name, f"{name}-3")) if path), None)
         if not found:
-            print(f"tests/run: no {name} here: the tools are not looked at by it", flush=True)
+            tally.skip(f"{name} on the tools", f"there is no {name} here")
             continue
         done = subprocess.run([found, *words], cwd=TOP, capture_output=True, text=True, timeout=300)
         tally.add(f"{name} on the tools", "" if done.returncode == 0 else (done.stdout + done.stderr)[-3000:])

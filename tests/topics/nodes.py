@@ -840,6 +840,7 @@ def beside(tally, several):
             tally.passed += own.passed
             tally.failed += own.failed
             tally.names += own.names
+            tally.skipped += own.skipped
 
 
 def run(tally):

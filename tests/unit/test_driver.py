@@ -362,3 +362,44 @@ def test_a_helper_ends_with_its_driver(tmp_path):
     assert command.poll() and not command.has_succeeded()
     with pytest.raises(ProcessLookupError):
         os.kill(int((tmp_path / "pid").read_text()), 0)
+
+
+def test_a_command_that_has_ended_leaves_no_descriptor():
+    before = sorted(number for number in range(64) if is_open(number))
+    for _ in range(3):
+        command = helper(["true"], None, dict(os.environ))
+        while not command.poll():
+            time.sleep(0.01)
+    assert sorted(number for number in range(64) if is_open(number)) == before
+
+
+def is_open(number):
+    try:
+        os.fstat(number)
+    except OSError:
+        return False
+    return True
+
+
+def test_names_that_come_at_once_are_seen(tmp_path):
+    """Files whose folder is dated alike, since they came within one step of its clock."""
+    os.mkdir(tmp_path / "jobs")
+    names = workfolder.Names(f"{tmp_path}/jobs")
+    for number in range(200):
+        (tmp_path / "jobs" / str(number)).touch()
+        assert str(number) in names.look()
+
+
+def test_a_full_disk_is_asked_again_though_no_job_is_there(tmp_path, monkeypatch):
+    own = driver(tmp_path, "--free", "1000")
+    free = [10]
+    monkeypatch.setattr(own.layout, "free_bytes", lambda: free[0])
+    own.least = 1000
+    own.health.set_short(own.lacking_disk(1000))
+    own.health.short_since -= 100
+    own.health.look()
+    assert os.path.exists(f"{tmp_path}/work/away")
+    free[0], own.free_due, own.keep_due = 2000, 0.0, 0.0
+    own.look_at_rest()
+    own.health.look()
+    assert not os.path.exists(f"{tmp_path}/work/away")

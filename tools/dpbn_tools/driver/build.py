@@ -101,8 +101,8 @@ class Build:
         # why it is ended: the reason of its failure, or why nobody waits for it
         self.failed, self.dropped = "", ""
         self.is_told_stuck, self.end_due = False, 0.0
-        # the log's size, and since when it is that
-        self.printed, self.silent_since = -1, time.monotonic()
+        # how much it printed, since when it is that, and how much is before that in the log
+        self.printed, self.silent_since, self.header = -1, time.monotonic(), 0
         # what was made, once it was looked at, and the text to hand in
         self.made: Optional[Packages] = None
         self.text: Optional[List[str]] = None

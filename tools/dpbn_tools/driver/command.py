@@ -42,6 +42,7 @@ class Command:
                 self.reads = -1
                 # only a process that ends closes its end
                 self.process.wait()
+                self.end()
         return True
 
     def group(self) -> int:

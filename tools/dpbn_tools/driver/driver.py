@@ -67,7 +67,8 @@ class Driver:
         self.odd: Dict[str, float] = {}
         self.due: Dict[str, float] = {}
         self.bad: Optional[BadLog] = None
-        self.free, self.free_due = 0, 0.0
+        # how much disk is free, and how much the last job wanted that didn't begin since there was less
+        self.free, self.free_due, self.least = 0, 0.0, 0
         self.keep_due, self.clear_due = 0.0, 0.0
         self.is_stopped = self.is_ending = False
         self.busy_until = 0.0
@@ -228,7 +229,9 @@ class Driver:
                 self.lines.tell(f"= a build that can't be ended goes on in {build.folder}")
         if build.state is State.OVER and not build.is_busy:
             self.check_posted(build)
-            self.endings.go_on(build)
+            # one of an earlier run waits for its job
+            if build.command or build.is_reused or build.dropped or build.job.name in self.jobs:
+                self.endings.go_on(build)
 
     def check_posted(self, build: Build) -> None:
         """Ends a build of an earlier run for which there is no job any more."""
@@ -276,16 +279,20 @@ class Driver:
         if not self.health.is_due(str(posted.job)):
             return False
         least = self.limits.of(posted.job, "free")
-        if least is None:
-            return True
+        why = self.lacking_disk(least or 0)
+        if why:
+            self.lines.tell_once(f"~ {posted.job} doesn't begin: {why}", ("free", least))
+            self.least = least or 0
+        self.health.set_short(why)
+        return not why
+
+    def lacking_disk(self, least: int) -> str:
+        """Why there is too little free disk, if there is."""
+        if not least:
+            return ""
         if time.monotonic() >= self.free_due:
             self.free, self.free_due = self.layout.free_bytes(), time.monotonic() + FREE_EACH
-        is_short = self.free < least
-        why = f"{self.free} bytes of disk are free, and {least} have to be" if is_short else ""
-        if is_short:
-            self.lines.tell_once(f"~ {posted.job} doesn't begin: {why}", ("free", least))
-        self.health.set_short(why)
-        return not is_short
+        return f"{self.free} bytes of disk are free, and {least} have to be" if self.free < least else ""
 
     def is_ready(self, posted: Posted, may_begin: bool) -> bool:
         """Whether all that the job is to be built on is here."""
@@ -392,6 +399,9 @@ class Driver:
             self.fetches.keep_only([digest for posted in self.jobs.values() for digest in posted.unsure])
             self.odd = {name: due for name, due in self.odd.items() if due > now - PATIENCE}
             self.health.keep_only({str(posted.job) for posted in self.jobs.values()})
+            if self.health.short and not self.jobs:
+                # the node gave them all to others, so that none is there to be asked for
+                self.health.set_short(self.lacking_disk(self.least))
         if now >= self.clear_due:
             self.clear_due = now + 3600
             self.tasks.start(self.clear_stores, lambda _, __: None)

@@ -89,7 +89,7 @@ class Layout:
     def start(self, build: Build) -> None:
         log = self.logs.begin(build.job)
         try:
-            os.write(log, f"## {time.strftime('%FT%TZ', time.gmtime())}\n".encode() + build.job.text)
+            build.header = os.write(log, f"## {time.strftime('%FT%TZ', time.gmtime())}\n".encode() + build.job.text)
             build.start(self.command, log, self.asked.grace, self.environment(build))
         finally:
             os.close(log)
@@ -133,7 +133,7 @@ class Layout:
             return f"it took longer than {longest} s"
         if silent is None and most is None:
             return ""
-        printed = self.logs.size(build.job)
+        printed = self.logs.size(build.job) - build.header
         if printed != build.printed:
             build.printed, build.silent_since = printed, now
         if most is not None and printed > most:
@@ -163,10 +163,13 @@ class Layout:
         """Marks the build as failed. Returns where its log is. What it made goes first: that may be what fills the disk."""
         most = limits.of(build.job, "log-bytes")
         log = self.logs.path(build.job)
-        if most is not None and os.path.exists(log) and os.path.getsize(log) > most:
-            self.logs.cut(build.job, most)
+        if most is not None and os.path.exists(log) and os.path.getsize(log) > build.header + most:
+            self.logs.cut(build.job, build.header + most)
         if self.keep_failed:
-            self.keep_tree(build)
+            try:
+                self.keep_tree(build)
+            except OSError as error:
+                self.lines.tell(f"? the work tree of {build.job} isn't kept: {error}")
         build.empty()
         log = self.logs.has_failed(build.job)
         why = build.failed.replace("\n", " ")

@@ -16,6 +16,8 @@ OWN = f".{secrets.token_hex(4)}{HALF}"
 PARTS = ("jobs", "done", "failed", "build", "begun")
 # how often the lock is touched, and for how long a lock counts that was touched, in seconds
 HEARTBEAT, FRESH = 10, 25
+# how much the clock by which files are dated may go on at a time, in seconds
+COARSE = 0.1
 # how long the work folder has to be another one before that is believed
 GONE = 2
 # errors of file systems that have no locks
@@ -65,7 +67,9 @@ class Names:
         stat = os.stat(self.folder)
         now = time.monotonic()
         if (stat.st_mtime_ns, stat.st_ino) != self.seen or now >= self.due:
-            self.seen, self.due = (stat.st_mtime_ns, stat.st_ino), now + 1
+            # a change that comes as soon after this one as the clock of files goes on isn't seen by the time
+            is_new = time.time() - stat.st_mtime < COARSE
+            self.seen, self.due = None if is_new else (stat.st_mtime_ns, stat.st_ino), now + 1
             self.names = {name for name in os.listdir(self.folder) if not name.startswith(".")}
         return self.names
 
