@@ -334,10 +334,15 @@ def failed(tally, bulk):
     counts = sorted(line.split(None, 1)[1] for line in out.splitlines())
     wanted = ["0 builds that failed are tried again"] * 2 + ["1 builds that failed are tried again"]
     check(tally, "retry", (counts, error, status) == (wanted, "", 0), out, error, status)
+    check(tally, "retry, what is built", until(lambda: all("I=6 " in line for line in bulk.lines().values())), bulk.lines())
 
 
 def rested(tally, bulk):
-    """When all is held the nodes come to rest, and nothing runs any more."""
+    """Stopped, and started again with another file, the nodes come to rest as all is held, and nothing runs any more."""
+    out, error, status = bulk.call("june", "stop")
+    check(tally, "stop", (out.count("  stopped  "), error, status) == (3, "", 0), out, error, status)
+    bulk.write(node="--rest 2")
+    bulk.call("june", "start")
     rests = until(lambda: all(line.startswith("at rest, holds all that isn't ignored") for line in bulk.lines().values()))
     left = until(lambda: not any(bulk.holder(name, part) for name in NAMES for part in ("keeper", "driver", "node")))
     out, error, status = bulk.call("june", "status")
@@ -370,16 +375,18 @@ def collected(tally, bulk):
     check(tally, "collect, the large files", len(digests) == 6, digests)
     shutil.rmtree(f"{bulk.folder}/june.d/store")
     copies = {digest: [bulk.home(name, f"june/store/{digest}") for name in NAMES if os.path.exists(bulk.home(name, f"june/store/{digest}"))] for digest in digests}
-    twice = next(digest for digest in digests if len(copies[digest]) > 1)
-    once = next((digest for digest in digests if len(copies[digest]) == 1), None)
-    for path in (copies[twice][0], *(copies[once] if once else [])):
+    # one has a copy at another host; the other one has none any more
+    twice, once = digests[:2]
+    first, other = copies[twice][0], next(bulk.home(name, f"june/store/{twice}") for name in NAMES if bulk.home(name) not in copies[twice][0])
+    os.makedirs(os.path.dirname(other), exist_ok=True)
+    shutil.copy(first, other)
+    for path in (first, *copies[once]):
         os.chmod(path, 0o644)
         with open(path, "r+b") as file:
             file.write(b"X")
     out, error, status = bulk.call("june", "collect")
-    why = f"1 large files are on no host that answered, the first: {once}" if once else ""
-    got = twice in os.listdir(f"{bulk.folder}/june.d/store"), why in error, status
-    check(tally, "collect, files with wrong bytes", got == (True, True, 1 if once else 0), out, error, status)
+    got = twice in os.listdir(f"{bulk.folder}/june.d/store"), f"1 large files are on no host that answered, the first: {once}\n" in error, status
+    check(tally, "collect, files with wrong bytes", got == (True, True, 1), out, error, status)
     check(tally, "collect, packages by path", os.path.isdir(f"{bulk.folder}/june.d/packages/a:b"), os.listdir(f"{bulk.folder}/june.d/packages"))
 
 
@@ -400,7 +407,7 @@ def three_hosts(tally):
     """A run from start to packages, with crashes, a host that drains, and a build that fails."""
     with laid() as bulk:
         put(f"{bulk.folder}/broken:a:e", "")
-        bulk.write(node="--rest 8")
+        bulk.write(node="--rest 1000")
         for part in (started, crashed, drained, failed, rested, collected, reported):
             tally.run(f"three hosts, {part.__name__}", part, bulk)
 
@@ -417,7 +424,7 @@ def refuses(tally, bulk, name, wanted, *given):
     """Start is refused with these lines, and changes nothing anywhere."""
     before = kept(bulk)
     out, error, status = bulk.call(*given)
-    lines = [re.sub(r"/\S*/homes/\w+/", "", re.sub(r"\b[0-9a-f]{16,64}(\.\.)?", "HEX", line)) for line in error.splitlines()]
+    lines = [re.sub(r"homes/\w+/", "", re.sub(r"\b[0-9a-f]{16,64}(\.\.)?", "HEX", line)) for line in error.replace(f"{bulk.folder}/", "").splitlines()]
     runs = [name for name in NAMES if bulk.holder(name, "keeper")]
     right = (out, lines, status, runs) == ("", [f"dpbn-hosts: {line}" for line in wanted], 1, []) and kept(bulk) == before
     check(tally, name, right, out, error, status, runs)
@@ -525,7 +532,7 @@ def alone(tally):
         check(tally, "a host whose node is given up", running and bulk.call("june", "status")[2] == 1)
         os.unlink(f"{bulk.folder}/bin/dpbn")
         out, _, status = bulk.call("june", "start")
-        check(tally, "a host without dpbn", status == 1 and "node down: [Errno 2] No such file or directory: 'dpbn'" in out, out)
+        check(tally, "a host without dpbn", status == 1 and f"node down: there is no dpbn in {bulk.folder}/bin:" in out, out)
         bulk.call("june", "stop")
         for more, wanted in (("bin /none", "dpbn isn't installed there, or `bin` is missing: "), ("ssh false", "it ended with status 1"), ("ssh echo", "it prints what isn't dpbn-host's"),
                              ("ssh ./none", "./none: No such file or directory")):

@@ -5,6 +5,7 @@ import contextlib
 import fcntl
 import json
 import os
+import shutil
 import signal
 import subprocess
 import sys
@@ -44,6 +45,11 @@ class Part:
 
     def start(self, words: List[str]) -> bool:
         """Starts it, unless one that an earlier keeper started still runs. It holds its lock as long as it runs."""
+        seen = environment(self.folder)
+        if not shutil.which(words[0], path=seen["PATH"]):
+            self.began = time.time()
+            self.ended(End(AGAIN, f"there is no {words[0]} in {seen['PATH']}"))
+            return True
         lock = os.open(self.folder.at(f"{self.name}.lock"), os.O_RDWR | os.O_CREAT | os.O_CLOEXEC, 0o644)
         try:
             fcntl.flock(lock, fcntl.LOCK_EX | fcntl.LOCK_NB)
@@ -60,8 +66,8 @@ class Part:
             self.output_began = os.fstat(out).st_size
             self.starts += 1
             self.began = time.time()
-            self.process = subprocess.Popen(words, cwd=self.folder.path, env=environment(self.folder), stdin=subprocess.DEVNULL, stdout=out,
-                                            stderr=out, pass_fds=[lock], start_new_session=True, preexec_fn=mark)
+            self.process = subprocess.Popen(words, cwd=self.folder.path, env=seen, stdin=subprocess.DEVNULL, stdout=out, stderr=out,
+                                             pass_fds=[lock], start_new_session=True, preexec_fn=mark)
             self.end = None
         except OSError as error:
             self.ended(End(AGAIN, str(error)))
