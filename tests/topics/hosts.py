@@ -332,7 +332,7 @@ def failed(tally, bulk):
     os.unlink(f"{bulk.folder}/broken:a:e")
     out, error, status = bulk.call("june", "retry")
     counts = sorted(line.split(None, 1)[1] for line in out.splitlines())
-    wanted = ["0 builds that failed are tried again"] * 2 + ["1 builds that failed are tried again"]
+    wanted = [f"failed builds that are tried again: {count}" for count in (0, 0, 1)]
     check(tally, "retry", (counts, error, status) == (wanted, "", 0), out, error, status)
     check(tally, "retry, what is built", until(lambda: all("I=6 " in line for line in bulk.lines().values())), bulk.lines())
 

@@ -107,7 +107,7 @@ def retry(_: argparse.Namespace, folder: Folder) -> int:
     failed = f"{folder.work(folder.host(folder.file()))}/failed"
     marks = names_in(failed)
     remove([f"{failed}/{name}" for name in marks])
-    print(f"{len(marks)} builds that failed are tried again")
+    print(f"failed builds that are tried again: {len(marks)}")
     return 0
 
 

@@ -5,7 +5,7 @@ import re
 import signal
 from typing import NamedTuple
 
-AGAIN, RESTS, GIVEN_UP = "again", "rests", "given up"
+AGAIN, RESTS, GIVEN_UP, STOPPED = "again", "rests", "given up", "stopped"
 FAULT = re.compile(rb"^dpbn: fault ([0-9]+)( at [0-9]+)?$", re.MULTILINE)
 # a log whose device failed: what the system has of it in memory may not be on the disk, so a person has to look first (dpbn(1))
 DEVICE_FAILED = b"1001"

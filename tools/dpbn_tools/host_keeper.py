@@ -13,7 +13,7 @@ import time
 from typing import Any, Callable, Dict, List, Optional
 
 from dpbn_tools import host_ends
-from dpbn_tools.host_ends import AGAIN, GIVEN_UP, RESTS, End
+from dpbn_tools.host_ends import AGAIN, GIVEN_UP, RESTS, STOPPED, End
 from dpbn_tools.host_folder import DRIVER, NODE, Folder, tail_of
 from dpbn_tools.host_words import driver_words, environment, node_words
 from dpbn_tools.whole_files import put
@@ -67,7 +67,7 @@ class Part:
             self.starts += 1
             self.began = time.time()
             self.process = subprocess.Popen(words, cwd=self.folder.path, env=seen, stdin=subprocess.DEVNULL, stdout=out, stderr=out,
-                                             pass_fds=[lock], start_new_session=True, preexec_fn=mark)
+                                            pass_fds=[lock], start_new_session=True, preexec_fn=mark)
             self.end = None
         except OSError as error:
             self.ended(End(AGAIN, str(error)))
@@ -99,7 +99,7 @@ class Part:
         pid = self.process.pid if self.process else self.folder.holder(self.name)
         if not end_process(pid, seconds, self.runs):
             tell(f"the {self.name} doesn't end")
-        self.process, self.end = None, End(GIVEN_UP, "stopped")
+        self.process, self.end = None, End(STOPPED, "it was stopped")
 
     def runs(self) -> bool:
         if self.process:

@@ -4,6 +4,8 @@ from __future__ import annotations
 import time
 from typing import Any, Dict, Optional
 
+from dpbn_tools.host_ends import GIVEN_UP, RESTS
+
 UNITS = ((86_400, "d"), (3600, "h"), (60, "min"), (1, "s"))
 
 
@@ -39,10 +41,15 @@ def is_running(found: Dict[str, Any]) -> bool:
     return found.get("node") is not None and found.get("driver") is not None
 
 
+def node_end(found: Dict[str, Any], what: str) -> Optional[str]:
+    """Why its node ended, if it did so in this way and doesn't run."""
+    its = found.get("state", {}).get("node") or {}
+    return str(its["end"]) if its.get("what") == what and found.get("node") is None else None
+
+
 def rests(found: Dict[str, Any]) -> Optional[str]:
     """How its node came to rest, if that is why nothing runs."""
-    its = found.get("state", {}).get("node") or {}
-    return str(its["end"]) if its.get("what") == "rests" and found.get("node") is None else None
+    return node_end(found, RESTS)
 
 
 def is_well(found: Dict[str, Any]) -> bool:
@@ -57,19 +64,21 @@ def state_of(found: Dict[str, Any], now: float) -> str:
     rest = rests(found)
     if rest:
         return rest
-    if found.get("keeper") is None and found.get("node") is None and found.get("driver") is None:
-        was_given_up = ((found.get("state", {}).get("node") or {}).get("what") == "given up"
-                        and (found["state"]["node"].get("end") != "stopped"))
-        return f"down: {found['state']['node']['end']}" if was_given_up else "stopped" if found.get("has_begun") else "not started yet"
+    if all(found.get(part) is None for part in ("keeper", "node", "driver")):
+        why = node_end(found, GIVEN_UP)
+        text = f"down: {why}" if why else "stopped" if found.get("has_begun") else "not started yet"
+        return text + steered(found)
     parts = {part: part_state(found, part, now) for part in ("node", "driver")}
     text = parts["node"] if is_running(found) else "; ".join(f"{part} {state}" for part, state in parts.items())
     if found.get("keeper") is None:
         text += "; nobody starts it again"
-    if found.get("stop"):
-        text += ", drains" if found.get("builds") else ", drained"
-    if found.get("away"):
-        text += f", away: {found['away'].strip()[:100]}"
-    return text
+    return text + steered(found)
+
+
+def steered(found: Dict[str, Any]) -> str:
+    """Whether it is drained, or can't build now."""
+    text = (", drains" if found.get("builds") else ", drained") if found.get("stop") else ""
+    return f"{text}, away: {found['away'].strip()[:100]}" if found.get("away") else text
 
 
 def line_of(found: Dict[str, Any], now: Optional[float] = None) -> str:
