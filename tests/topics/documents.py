@@ -358,7 +358,8 @@ def places(tally: Tally) -> None:
     for path in documents():
         gone = missing(set(re.findall(form, text_of(path))))
         tally.add(f"{path}, the files that it names", f"{gone} don't exist" if gone else "")
-    found: Optional[re.Match[str]] = re.search(r"^TOOLS\s*=\s*(.*)$", text_of("Makefile"), re.MULTILINE)
+    makefile = text_of("Makefile").replace("\\\n", " ")
+    found: Optional[re.Match[str]] = re.search(r"^TOOLS\s*=\s*(.*)$", makefile, re.MULTILINE)
     for tool in found[1].split() if found else []:
         is_right = os.access(f"{TOP}/tools/{tool}", os.X_OK) and os.path.exists(f"{TOP}/man/{tool}.1")
         tally.add(f"tools/{tool}, which is installed", "" if is_right else "it isn't executable, or has no page")
