@@ -83,9 +83,11 @@ def exported(crate: str) -> Set[str]:
     """The names that the root file of a crate passes on from its own modules, and its public modules."""
     root = next(path for path in (f"{sources.TOP}/crates/{crate}/src/{it}.rt" for it in ("lib", "main")) if os.path.exists(path))
     text = "\n".join(lines_of(root))
+    modules = {"crate", "self", *re.findall(r"^(?:pub )?mod (\w+);", text, re.MULTILINE)}
     names: Set[str] = set(re.findall(r"^pub mod (\w+);", text, re.MULTILINE))
-    for uses in re.findall(r"^pub use crate::(.*?);", text, re.MULTILINE | re.DOTALL):
-        names |= set(re.findall(r"\w+", uses))
+    for first, uses in re.findall(r"^pub use (\w+)::(.*?);", text, re.MULTILINE | re.DOTALL):
+        if first in modules:
+            names |= set(re.findall(r"\w+", uses))
     return names
 
 

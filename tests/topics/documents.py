@@ -96,6 +96,10 @@ def generated(tally: Tally) -> None:
     """The generated pages are what the generator makes, and the generator does what it should on a sample."""
     for name, page in generated_docs.PAGES.items():
         tally.add(f"{name}, generated", "" if text_of(name) == page() else "it is not current: run tools/generate-docs")
+    sections = re.split(r"^## `", text_of("docs/PROVED.md"), flags=re.MULTILINE)[1:]
+    empty = [it.partition("`")[0] for it in sections if "\n- `" not in it]
+    libraries = [it for it in empty if os.path.exists(f"{TOP}/crates/{it}/src/lib.rt")]
+    tally.add("docs/PROVED.md, its crates", f"{libraries} have no entry" if libraries else "")
     comment = [" The path.", "", " # Errors", "", " The first of:", " - too long;", " - empty."]
     wanted = "- `T::parse`: The path.\n\n  Errors: The first of:\n  - too long;\n  - empty.\n\n  Clauses: `ok`, `err`."
     got = generated_docs.item(generated_docs.Entry("T::parse", comment, ["ok", "err"]))
