@@ -9,8 +9,7 @@ TOOLS =		expand-listing why-ignored unpack-log make-builds build-jobs make-listi
 		dpbn-report dpbn-host dpbn-hosts
 
 all:
-	./dpbr status /dev/null /dev/null >/dev/null
-	./dpbn node --help 2>/dev/null; [ $$? -eq 2 ]
+	tools/build dpbr dpbn
 
 check:
 	tests/run
@@ -44,7 +43,6 @@ bench: all
 	-bench/node
 	-bench/traces
 	-bench/way
-	./dpbn node --help 2>/dev/null; [ $$? -eq 2 ]
 	-bench/nodes
 	-bench/live
 	-bench/link
