@@ -23,6 +23,8 @@ sys.path.insert(0, f"{TOP}/tools")
 
 from dpbn_tools import host, host_ends, hosts, hosts_file, hosts_status, log_copies, run_key  # noqa: E402
 
+# a node that is played takes the place of dpbn in the ten steps, too, for who works on these tests
+PLAYED = f"{TESTS}/played-dpbn" if "PLAYED" in os.environ else None
 NAMES = ("oak", "elm", "fir")
 # how long something is waited for, in seconds, on a machine that does other things, too
 LIMIT = 180
@@ -635,6 +637,189 @@ def services(tally):
         check(tally, "the script for rc.d, its end", gone and bulk.lines()["oak"].startswith("stopped"), bulk.lines())
 
 
+# ---- the ten steps of dpbn-bulk(7)
+
+# what builds a port of the tree of Makefiles, with packages that are one file each
+BUILD_PORT = """#!/bin/sh
+mkdir deps
+for file in "$DEPS"/*/*.tgz; do
+    test ! -e "$file" || { folder=deps/$(basename "$(dirname "$file")"); mkdir "$folder" && tar -xzf "$file" -C "$folder" || exit 1; }
+done
+DEPS=$PWD/deps bmake -f "$PORTSDIR/${PKGPATH%%,*}/Makefile" package || exit 1
+while read -r path name; do
+    folder=$OUT/$(echo "$path" | tr / :)
+    (cd "$folder" && head -c 2000 /dev/urandom > weight && tar -czf ../package content weight && rm -- * && mv ../package "$name.tgz") || exit 1
+done < "$NAMES"
+"""
+# the commands that may be run again until they print what the page shows, since it takes its time
+LOOKS = ("dpbn-hosts june status", "dpbn-hosts june report", "sed ", "head ")
+# what isn't the same at each run
+MASKS = [(r"  I=\d+ B=\d+ Q=\d+ T=\d+ !=\d+", ""), (r"drains\b|drained\b", "DRAIN"), (r"\b\d+ (d|h|min|s)( \d+ (h|min|s))?\b", "TIME"), (r"\d+ (B|kB|MB|GB|TB)\b", "SIZE"),
+         (r"\b(Mon|Tue|Wed|Thu|Fri|Sat|Sun)( \d+ \w+)?\b", "DAY"), (r"\d{2}:\d{2}(:\d{2})?", "CLOCK"), (r"\b(oak|elm|fir)(?= +DAY)|by the log of \w+", "HOST"),
+         (r"\d+", "N"), (r" +", " ")]
+
+
+def masked(text):
+    for pattern, word in MASKS:
+        text = re.sub(pattern, word, text)
+    return text
+
+
+def blocks_of(page):
+    """The blocks of commands of the ten steps: in each the commands, with what is shown below them."""
+    part = page[page.index(".Sh A BULK BUILD IN TEN STEPS"):page.index(".Sh WHAT TO DECIDE BEFORE")]
+    for block in re.findall(r"^\.Bd -literal.*?\n(.*?)^\.Ed$", part, re.DOTALL | re.MULTILINE):
+        commands = [each.partition("\n")[::2] for each in re.split(r"^\$ ", block, flags=re.MULTILINE)[1:]]
+        yield [(line.replace("\\e", "\\"), text) for line, text in commands]
+
+
+class Sshd:
+    """A real sshd on loopback, a port for each host, and a wrapper of ssh that finds it."""
+
+    def __init__(self, bulk):
+        self.bulk, folder = bulk, f"{bulk.folder}/ssh"
+        os.mkdir(folder, 0o700)
+        for name in ("host", "user"):
+            subprocess.run(["ssh-keygen", "-q", "-t", "ed25519", "-N", "", "-f", f"{folder}/{name}"], check=True, stdin=subprocess.DEVNULL, timeout=LIMIT)
+        shutil.copy(f"{folder}/user.pub", f"{folder}/authorized")
+        port = free_ports(3)
+        lines = [f"HostKey {folder}/host", f"AuthorizedKeysFile {folder}/authorized", "StrictModes no", "UsePAM no", "PasswordAuthentication no",
+                 "PidFile none", "MaxStartups 100", "PermitRootLogin yes", *(f"ListenAddress 127.0.0.1:{port + number}" for number in range(3))]
+        for number, name in enumerate(NAMES):
+            lines += [f"Match LocalPort {port + number}", f'    ForceCommand {bulk.folder}/login {name} "$SSH_ORIGINAL_COMMAND"']
+        put(f"{folder}/sshd_config", "\n".join([*lines, ""]))
+        key = " ".join(read(f"{folder}/host.pub").split()[:2])
+        put(f"{folder}/known", "".join(f"[127.0.0.1]:{port + number} {key}\n" for number in range(3)))
+        text = "".join(f"Host {name}\n    HostName 127.0.0.1\n    Port {port + number}\n" for number, name in enumerate(NAMES))
+        put(f"{folder}/config", text + f"Host *\n    IdentityFile {folder}/user\n    IdentitiesOnly yes\n    UserKnownHostsFile {folder}/known\n    StrictHostKeyChecking yes\n")
+        with open(f"{folder}/sshd.log", "wb") as log:
+            self.process = subprocess.Popen([sshd(), "-D", "-e", "-f", f"{folder}/sshd_config"], stdin=subprocess.DEVNULL, stdout=log, stderr=log)
+        self.real = shutil.which("ssh")
+
+    def is_up(self):
+        """Whether it lets one in; then it takes the place of the stand-in."""
+        config = f"{self.bulk.folder}/ssh/config"
+
+        def enters():
+            done = subprocess.run([self.real, "-F", config, "-o", "BatchMode=yes", "fir", "pwd"], stdin=subprocess.DEVNULL, capture_output=True, timeout=LIMIT)
+            return done.stdout.decode().strip() == os.path.realpath(self.bulk.home("fir", "."))
+
+        if self.process.poll() is None and until(lambda: self.process.poll() is not None or enters(), 30) and self.process.poll() is None:
+            put(f"{self.bulk.folder}/bin/ssh", f'#!/bin/sh\nexec {self.real} -F {config} "$@"\n', 0o755)
+            return True
+        return False
+
+    def end(self):
+        self.process.terminate()
+        self.process.wait(LIMIT)
+
+
+def sshd():
+    return shutil.which("sshd", path=f"{os.environ.get('PATH', os.defpath)}:/usr/sbin:/usr/local/sbin")
+
+
+class Steps:
+    """Three hosts with a tree of Makefiles, on which the commands of the page are run."""
+
+    def __init__(self, bulk):
+        self.bulk, self.ports = bulk, f"{bulk.folder}/ports"
+        subprocess.run([f"{TESTS}/live/make-tree", self.ports, "--seed", "8", "--ports", "12", "--broken", "1", "--ignored", "1", "--least", "0.1", "--most", "0.4"],
+                       check=True, timeout=LIMIT)
+        self.names = read(f"{self.ports}/order").split()
+        dumps = [subprocess.run(["bmake", "dump-vars"], cwd=f"{self.ports}/{name}", check=True, capture_output=True, timeout=LIMIT).stdout for name in self.names]
+        put(f"{self.ports}/whole", b"".join(dumps).decode())
+        put(f"{self.ports}/answers", "{}")
+        self.mend()
+        for name in NAMES:
+            shutil.copytree(self.ports, bulk.home(name, "ports"))
+        bulk.program("bin/build-port", BUILD_PORT)
+        for name in ("june", "listing"):
+            os.unlink(f"{bulk.folder}/{name}")
+
+    def mend(self):
+        """The difference that mends the port that is broken."""
+        for name in self.names:
+            text = read(f"{self.ports}/{name}/Makefile")
+            if "BROKEN = " in text:
+                new = re.sub("BROKEN = .*\n", "", text)
+                put(f"{self.bulk.folder}/Makefile.new", new)
+                done = subprocess.run(["diff", "-u", f"{name}/Makefile", f"{self.bulk.folder}/Makefile.new"], cwd=self.ports, capture_output=True, timeout=LIMIT)
+                lines = done.stdout.decode().split("\n")
+                put(f"{self.bulk.folder}/mend.diff", "\n".join([f"--- {name}/Makefile", f"+++ {name}/Makefile", *lines[2:]]))
+
+    def run_line(self, line):
+        """What one line prints on standard output, and on both streams."""
+        done = subprocess.run(["sh", "-c", line], cwd=self.bulk.folder, stdin=subprocess.DEVNULL, capture_output=True, timeout=LIMIT,
+                              env={**self.bulk.environment(), "PORTSDIR": self.ports, "MAKE": f"{TESTS}/played-make"})
+        return done.stdout.decode(), done.stdout.decode() + done.stderr.decode()
+
+    def run_block(self, commands):
+        """What the first command of a block prints that isn't what the page shows, and that; or nothing."""
+        for line, text in commands:
+            out, both = self.run_line(line)
+            same = masked if line.startswith(("dpbn-hosts ", *LOOKS)) else str
+            if same(text) not in (same(out), same(both)):
+                return line, text, both
+        return None
+
+    def block(self, tally, commands):
+        """A block of commands. One that only looks is looked at until it is as the page shows it."""
+        if commands[0][0] == "cat june":
+            text = commands[0][1]
+            for number, address in enumerate(self.bulk.addresses()):
+                text = text.replace(f"192.0.2.1{number}:7000", address)
+            put(f"{self.bulk.folder}/june", text)
+            check(tally, "dpbn-bulk(7), its file", text.count("127.0.0.1:") == 3, text)
+            return
+        wrong = self.run_block(commands)
+        if all(line.startswith(LOOKS) for line, _ in commands):
+            end = time.monotonic() + LIMIT
+            while wrong and time.monotonic() < end:
+                time.sleep(0.5)
+                wrong = self.run_block(commands)
+        told = wrong and (wrong, [read(self.bulk.home(name, f"june/{part}.out"))[-600:] for name in NAMES for part in ("node", "driver")])
+        check(tally, f"dpbn-bulk(7): {'; '.join(line for line, _ in commands)}", not wrong, told)
+
+    def packages(self, tally):
+        """Each package is what a serial build makes of its port."""
+        subprocess.run([f"{TESTS}/live/serial-build", self.ports, f"{self.bulk.folder}/serial"], stdout=subprocess.DEVNULL, check=True, timeout=LIMIT)
+        names = dict(line.partition(".FULLPKGNAME=")[::2] for line in read(f"{self.bulk.folder}/listing").splitlines() if ".FULLPKGNAME=" in line)
+        wrong = []
+        for folder in sorted(os.listdir(f"{self.bulk.folder}/serial")):
+            package = f"{self.bulk.folder}/june.d/packages/{names[folder.replace(':', '/')]}.tgz"
+            done = subprocess.run(["tar", "-xzOf", package, "content"], capture_output=True, timeout=LIMIT)
+            if done.returncode or done.stdout != contents(f"{self.bulk.folder}/serial/{folder}/content"):
+                wrong.append((folder, done.stderr))
+        found = sorted(name for name in os.listdir(f"{self.bulk.folder}/june.d/packages") if name.endswith(".tgz"))
+        built = sorted(f"{names[folder.replace(':', '/')]}.tgz" for folder in os.listdir(f"{self.bulk.folder}/serial"))
+        check(tally, "dpbn-bulk(7), the packages", not wrong and found == built, wrong, found, built)
+
+
+def ten_steps(tally):
+    """The page's ten steps, from a dump to a flat folder of packages, word for word but for the hosts' addresses."""
+    name = "the ten steps of dpbn-bulk(7)"
+    missing = [it for it in ("bmake", "patch") if not shutil.which(it)]
+    if missing:
+        tally.skip(name, f"there is no {missing[0]} here")
+        return
+    with laid(dpbn=PLAYED or NODES) as bulk:
+        steps = Steps(bulk)
+        server = Sshd(bulk) if sshd() and shutil.which("ssh") else None
+        try:
+            if not server or not server.is_up():
+                tally.skip(f"{name} by a real sshd", "there is no sshd here, or it lets nobody in (openssh-server): a stand-in for ssh was used")
+            for commands in blocks_of(contents(f"{TOP}/man/dpbn-bulk.7").decode()):
+                steps.block(tally, commands)
+            steps.packages(tally)
+            for number, it in enumerate(NAMES):
+                run_file = read(bulk.home(it, f"june/node-{number}.run"))
+                check(tally, f"{name}, the key's fingerprint of {it}", f"key {run_key.fingerprint(run_key.read(f'{bulk.folder}/june.key'))}\n" in run_file, run_file)
+        finally:
+            bulk.end()
+            if server:
+                server.end()
+
+
 def run(tally):
     good_file(tally)
     bad_files(tally)
@@ -648,3 +833,4 @@ def run(tally):
     tally.run("lost logs", lost_logs)
     tally.run("a host alone", alone)
     tally.run("services", services)
+    tally.run("ten steps", ten_steps)
