@@ -15,10 +15,15 @@ check:
 	tests/run
 
 install: all
-	install -d $(DESTDIR)$(BINDIR) $(DESTDIR)$(MANDIR)/man1 $(DESTDIR)$(MANDIR)/man5 $(DESTDIR)$(MANDIR)/man7 $(DESTDIR)$(SHAREDIR)/dpbn_tools
+	install -d $(DESTDIR)$(BINDIR) $(DESTDIR)$(MANDIR)/man1 $(DESTDIR)$(MANDIR)/man5 $(DESTDIR)$(MANDIR)/man7
 	for program in dpbr dpbn; do install -m 755 crates/$$program/out/$$program $(DESTDIR)$(BINDIR)/$$program || exit 1; done
 	for tool in $(TOOLS); do install -m 755 tools/$$tool $(DESTDIR)$(BINDIR)/$$tool || exit 1; done
-	for module in tools/dpbn_tools/*.py; do install -m 644 $$module $(DESTDIR)$(SHAREDIR)/dpbn_tools/ || exit 1; done
+	for part in dpbn_tools dpbn_tools/driver; do \
+		install -d $(DESTDIR)$(SHAREDIR)/$$part || exit 1; \
+		for module in tools/$$part/*.py; do install -m 644 $$module $(DESTDIR)$(SHAREDIR)/$$part/ || exit 1; done; \
+	done
+	install -d $(DESTDIR)$(SHAREDIR)/examples
+	install -m 755 examples/build-port $(DESTDIR)$(SHAREDIR)/examples/
 	for page in man/*.1; do install -m 644 $$page $(DESTDIR)$(MANDIR)/man1/ || exit 1; done
 	for page in man/*.5; do install -m 644 $$page $(DESTDIR)$(MANDIR)/man5/ || exit 1; done
 	for page in man/*.7; do install -m 644 $$page $(DESTDIR)$(MANDIR)/man7/ || exit 1; done

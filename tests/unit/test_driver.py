@@ -320,7 +320,7 @@ def test_a_disk_that_stays_full_is_away(health):
 SUPERVISOR = os.path.join(os.path.dirname(builds.__file__), "supervisor.py")
 
 
-@pytest.mark.parametrize("without", ["", "import os; del os.waitid; "])
+@pytest.mark.parametrize("without", ["", "import os; vars(os).pop('waitid', None); "])
 def test_what_a_command_leaves_is_killed(tmp_path, without):
     """With waitid and without it, as on systems that haven't got it."""
     code = f"{without}import runpy, sys; sys.argv = sys.argv[1:]; runpy.run_path({SUPERVISOR!r}, run_name='__main__')"
