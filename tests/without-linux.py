@@ -60,8 +60,9 @@ def take_away() -> None:
     for name in ("_USE_CP_SENDFILE", "_HAS_FCOPYFILE", "_USE_CP_COPY_FILE_RANGE"):
         if hasattr(shutil, name):
             setattr(shutil, name, False)
-    # tempfile looks for it when it is imported
+    # these modules look for what there is when they are imported
     setattr(tempfile, "_O_TMPFILE_WORKS", False)
+    setattr(shutil, "_copyxattr", lambda *_, **__: None)
     if os.environ.get("NO_FLOCK"):
         fcntl.flock = without_flock  # type: ignore[assignment]
     for name in ("stat", "lstat", "readlink"):
