@@ -16,7 +16,7 @@ from dpbn_tools.driver.fetches import Fetches
 from dpbn_tools.driver.health import Health
 from dpbn_tools.driver.held import Held
 from dpbn_tools.driver.job import NAME, Job, NoJob, text_of_job
-from dpbn_tools.driver.layout import Changed, Layout
+from dpbn_tools.driver.build_steps import Changed, BuildSteps
 from dpbn_tools.driver.limits import WORDS, BadLimits, Limits
 from dpbn_tools.driver.lines import Lines
 from dpbn_tools.driver.names import Listed
@@ -60,8 +60,8 @@ class Driver:
         self.reuse = Reuse(os.path.realpath(asked.reuse), asked.inputs, asked.reuse_by_name) if asked.reuse else None
         pushes = Pushes(self.store, asked.push, asked.copies, self.logs.common("push.log")) if asked.copies > 1 else None
         self.pushes = pushes
-        self.layout = Layout(asked, self.work, self.logs, self.store, self.held, self.listed, self.reuse, lines)
-        self.endings = Endings(self.layout, self.tasks, self.limits, self.health, Times(f"{work}/times"), self.reuse, pushes)
+        self.steps = BuildSteps(asked, self.work, self.logs, self.store, self.held, self.listed, self.reuse, lines)
+        self.endings = Endings(self.steps, self.tasks, self.limits, self.health, Times(f"{work}/times"), self.reuse, pushes)
         self.jobs: Dict[str, Posted] = {}
         self.builds: List[Build] = []
         self.odd: Dict[str, float] = {}
@@ -240,7 +240,7 @@ class Driver:
                 self.end(build, "there is no job for it")
 
     def check_limits(self, build: Build) -> None:
-        why = self.layout.beyond(build, self.limits)
+        why = self.steps.beyond(build, self.limits)
         if why:
             build.failed = why
             self.ask_end(build)
@@ -291,7 +291,7 @@ class Driver:
         if not least:
             return ""
         if time.monotonic() >= self.free_due:
-            self.free, self.free_due = self.layout.free_bytes(), time.monotonic() + FREE_EACH
+            self.free, self.free_due = self.steps.free_bytes(), time.monotonic() + FREE_EACH
         return f"{self.free} bytes of disk are free, and {least} have to be" if self.free < least else ""
 
     def is_ready(self, posted: Posted, may_begin: bool) -> bool:
@@ -320,7 +320,7 @@ class Driver:
             if now >= posted.lacking_since + PATIENCE:
                 self.lines.tell_once(f"? {posted.job} waits: {self.held.path} hasn't all that it is to be built on")
             return False
-        why = self.layout.other_listing(posted.job, needed)
+        why = self.steps.other_listing(posted.job, needed)
         if why:
             posted.due = now + PATIENCE
             self.lines.tell_once(f"? {posted.job} waits: {why}", ("listing", why))
@@ -363,7 +363,7 @@ class Driver:
             elif build.folder:
                 self.tasks.start(lambda: remove_folder(build.folder), lambda _, __: None)
 
-        self.tasks.start(lambda: self.layout.look_for_earlier(build, needed), found)
+        self.tasks.start(lambda: self.steps.look_for_earlier(build, needed), found)
 
     def begin(self, posted: Posted) -> None:
         """Begins a build: its folder is laid out beside the loop."""
@@ -389,7 +389,7 @@ class Driver:
             if build.dropped:
                 self.ask_end(build)
 
-        self.tasks.start(lambda: self.layout.lay(build), laid)
+        self.tasks.start(lambda: self.steps.lay(build), laid)
 
     def look_at_rest(self) -> None:
         """What is done once in a while."""
