@@ -33,7 +33,7 @@ BUSY, LONGEST_BUSY, IDLE = 0.02, 5, 0.05
 # before what the system refused is tried again, in seconds
 PATIENCE = 5
 # how often the files of a job that waits are looked at, and the free disk, in seconds
-FILES_EACH, FREE_EACH = 0.2, 1
+FILES_EACH, POLL_EACH, FREE_EACH = 0.2, 1, 1
 # how long a build that was asked to end may take beyond its grace before that is told, in seconds
 LONGEST_END = 5
 # how long a build of an earlier run is kept that nobody asks for, in seconds
@@ -303,9 +303,11 @@ class Driver:
                 self.look_for_earlier(posted)
             return False
         now = time.monotonic()
-        if posted.unsure and now >= posted.files_due:
-            posted.files_due = now + FILES_EACH
+        if posted.unsure and now >= posted.files_due and (posted.version != self.store.version or now >= posted.poll_due):
+            posted.files_due, posted.version = now + FILES_EACH, self.store.version
             self.look_for_files(posted)
+            # others may put files into the store: the more are missing, the longer it takes to look
+            posted.poll_due = now + POLL_EACH + len(posted.unsure) / 1000
         return not posted.unsure
 
     def finds(self, posted: Posted) -> bool:
@@ -336,8 +338,9 @@ class Driver:
             if state is FileState.PRESENT:
                 del posted.unsure[digest]
             elif state is FileState.MISSING:
-                self.fetches.want(large, [host for host in self.held.holders(record)
-                                          if host == int(record.host) or str(host) != posted.job.host])
+                if not self.fetches.is_wanted(large):
+                    self.fetches.want(large, [host for host in self.held.holders(record)
+                                              if host == int(record.host) or str(host) != posted.job.host])
                 if self.fetches.is_missed(large):
                     missed.append(large)
         if missed:
