@@ -196,7 +196,7 @@ class Driver:
 
     def end(self, build: Build, why: str) -> None:
         """Has a build ended that nobody waits for."""
-        build.dropped = build.dropped or why
+        build.dropped, build.due = build.dropped or why, 0.0
         if build.state is State.RUNNING:
             self.ask_end(build)
 
