@@ -55,10 +55,10 @@ class Driver:
         self.held = Held(asked.log)
         self.listed = Listed(asked.listing) if asked.listing else None
         self.limits = Limits({word: getattr(asked, word.replace("-", "_")) for word in WORDS}, asked.limits)
-        self.fetches = Fetches(self.store, asked.fetch, self.logs.common("fetch.log"), self.tasks, lines.tell)
+        self.fetches = Fetches(self.store, asked.fetch, lambda: self.logs.common("fetch.log"), self.tasks, lines.tell)
         self.health = Health(self.work, asked.ready, lambda: self.logs.common("ready.log"), lines.tell)
         self.reuse = Reuse(os.path.realpath(asked.reuse), asked.inputs, asked.reuse_by_name) if asked.reuse else None
-        pushes = Pushes(self.store, asked.push, asked.copies, self.logs.common("push.log")) if asked.copies > 1 else None
+        pushes = Pushes(self.store, asked.push, asked.copies, lambda: self.logs.common("push.log")) if asked.copies > 1 else None
         self.pushes = pushes
         self.steps = BuildSteps(asked, self.work, self.logs, self.store, self.held, self.listed, self.reuse, lines)
         self.endings = Endings(self.steps, self.tasks, self.limits, self.health, Times(f"{work}/times"), self.reuse, pushes)
