@@ -8,8 +8,7 @@ SHAREDIR ?=	$(PREFIX)/share/dpbn
 TOOLS =		expand-listing why-ignored unpack-log make-builds build-jobs dpbn-report
 
 all:
-	./dpbr status /dev/null /dev/null >/dev/null
-	./dpbn node --help 2>/dev/null; [ $$? -eq 2 ]
+	tools/build dpbr dpbn
 
 check:
 	tests/run
@@ -39,7 +38,6 @@ bench: all
 	-bench/node
 	-bench/traces
 	-bench/way
-	./dpbn node --help 2>/dev/null; [ $$? -eq 2 ]
 	-bench/nodes
 	-bench/live
 	-bench/link

@@ -1198,7 +1198,7 @@ def run(tally):
                    beside_nodes, quiet, unanswered, voted_by_nobody, no_majority, long_run, manual_page, readme, lost_disks,
                    a_host_that_cannot_build))
     if not shutil.which("bmake"):
-        tally.skip("hosts that build a tree of Makefiles", "there is no bmake here")
+        tally.skip("what is built of Makefiles", "there is no bmake here")
         return
     three_hosts(tally)
     kills(tally)
