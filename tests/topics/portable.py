@@ -1,5 +1,5 @@
 """The tools without what only Linux has (tests/without-linux): a Python without waitid, sendfile, /proc and the like, the one true awk, a
-ksh as sh, bmake as make, and no timeout, flock or sha256sum. That stands in place of OpenBSD, on which nothing here ran. All of the topics
+ksh as sh, bmake as make, and no timeout, flock or sha256sum. That is in place of OpenBSD, on which nothing here ran. All of the topics
 `jobs` and `tools` run so by hand: tests/without-linux tests/run jobs tools."""
 import os
 import shutil

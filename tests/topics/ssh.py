@@ -19,7 +19,7 @@ LIMIT = 120
 # how long something may go on running on the host, in seconds, and what a loaded machine may take in addition
 MOST, MORE = 10, 10
 HOSTS = ("ob1:2", "ob2:2")
-# what builds there: it says what it was told, and waits as long as the file `wait` has; two builds at once at a place are noted
+# what builds there: it says what it was given, and waits as long as the file `wait` has; two builds at once at a place are noted
 BUILD = r"""#!/bin/sh
 mkdir "$HOME/at.$SLOT" || echo twice >> "$HOME/twice"
 echo $$ >> "$HOME/pids"
@@ -153,7 +153,7 @@ def built(place: Place) -> str:
 
 
 def a_build(tally) -> None:
-    """What COMMAND is told and finds, what comes back, and what is sent: each file once."""
+    """What COMMAND is given and finds, what comes back, and what is sent: each file once."""
     with laid() as place:
         status = place.run()
         tally.add("build-over-ssh", f"status {status}; {place.log()[-600:]}" if status else built(place))
@@ -315,7 +315,7 @@ def end(place: Place, driver: "Optional[subprocess.Popen[bytes]]", how: str) -> 
 
 
 def broken_line(tally, step: str, count: int, how: str) -> None:
-    """The line breaks in a step after so many bytes: the job is given back, or begun again, and nothing goes on there."""
+    """The line breaks in a step after this many bytes: the job is given back, or begun again, and nothing goes on there."""
     with laid() as place:
         place.file("cut", f"{step} {count} {how} 9")
         status = place.run("--wait", "0")

@@ -1,5 +1,5 @@
-"""A ports tree, read: tools/make-listing beside a make that is played (tests/played-make), under each awk and shell that the machine
-has; a made tree of OpenBSD's shape (tests/made_tree.py), its letters beside a second program (tests/letters.py); tools/order-listing."""
+"""A ports tree, read: tools/make-listing next to a make that is played (tests/played-make), under each awk and shell that the machine
+has; a made tree of OpenBSD's shape (tests/made_tree.py), its letters next to a second program (tests/letters.py); tools/order-listing."""
 import json
 import os
 import re
@@ -277,7 +277,7 @@ def real_make(tally) -> None:
     for words in ((".",), (".", "--only", "net/needs")):
         done = subprocess.run([f"{TOP}/tools/make-listing", *words], cwd=f"{TESTS}/ports", stdin=subprocess.DEVNULL, capture_output=True, timeout=LIMIT,
                               env={**os.environ, "MAKE": "bmake"}, check=False)
-        # where make stands, and how it says that, are its own
+        # where make is, and how it says that, are its own
         got = re.sub(r'error: .* "Fatal', 'error: MESSAGE "Fatal', done.stdout.decode())
         if "--only" in words:
             got = "".join(sorted(line for line in got.splitlines(True) if "IGNORE" not in line))
@@ -307,7 +307,7 @@ def made(scale: float, folder: str) -> Tuple[Tree, Ports]:
 
 
 def same_needs(got: Dict[str, Dict[str, set]], tree: Tree) -> str:
-    """How what a listing says differs from what the made tree says, if it does. What needs a port that make fails at needs what stands
+    """How what a listing says differs from what the made tree says, if it does. What needs a port that make fails at needs what is
     for it."""
     wanted, broken = tree.listed(), {place for place, port in tree.ports.items() if port.fault == "break"}
     if set(got) != set(wanted):
@@ -323,7 +323,7 @@ def same_needs(got: Dict[str, Dict[str, set]], tree: Tree) -> str:
 
 
 def whole_tree(tally, scale: float = SCALE, most_seconds: float = LIMIT) -> None:
-    """A made tree: its paths and what they need, and its letters beside the second program's."""
+    """A made tree: its paths and what they need, and its letters next to the second program's."""
     with tempfile.TemporaryDirectory() as folder:
         tree, ports = made(scale, folder)
         began = time.monotonic()
@@ -339,7 +339,7 @@ def whole_tree(tally, scale: float = SCALE, most_seconds: float = LIMIT) -> None
 
 
 def with_letters(tally, name: str, folder: str, listing: str) -> None:
-    """The letters of a listing, beside the second program's."""
+    """The letters of a listing, next to the second program's."""
     wanted = letters.printed(listing)
     tally.add(f"{name}, its letters by the second program", "" if re.search(r"Q=[1-9]\d* T=[1-9]\d* !=[1-9]", wanted.splitlines()[-1]) else wanted.splitlines()[-1])
     if not os.path.exists(PROGRAM):

@@ -28,13 +28,13 @@ from dpbn_tools.driver.tasks import Tasks
 from dpbn_tools.driver.times import Times
 from dpbn_tools.driver.workfolder import Replaced, WorkFolder
 
-# how long is waited between two looks, in seconds: for so many seconds after something went on, and else
+# how long is waited between two looks, in seconds: for this many seconds after something went on, and else
 BUSY, LONGEST_BUSY, IDLE = 0.02, 5, 0.05
 # before what the system refused is tried again, in seconds
 PATIENCE = 5
 # how often the files of a job that waits are looked at, and the free disk, in seconds
 FILES_EACH, POLL_EACH, FREE_EACH = 0.2, 1, 1
-# how long a build that was asked to end may take beyond its grace before that is told, in seconds
+# how long a build that was asked to end may take beyond its grace before that is reported, in seconds
 LONGEST_END = 5
 # how long a build of an earlier run is kept that nobody asks for, in seconds
 UNASKED = 60
@@ -95,7 +95,7 @@ class Driver:
     # ---- one look
 
     def look(self) -> None:
-        """What is there, what is over, and what may begin. What the system refuses is told, and tried again in a while."""
+        """What is there, what is over, and what may begin. What the system refuses is reported, and tried again in a while."""
         self.guarded("lock", self.work.check)
         self.tasks.look()
         self.guarded("log", self.look_at_log)
@@ -369,7 +369,7 @@ class Driver:
         self.tasks.start(lambda: self.steps.look_for_earlier(build, needed), found)
 
     def begin(self, posted: Posted) -> None:
-        """Begins a build: its folder is laid out beside the loop."""
+        """Begins a build: its folder is laid out next to the loop."""
         taken = {build.slot for build in self.builds if build.holds_place()}
         slot = next(number for number in range(len(taken) + 1) if number not in taken)
         build = Build(posted.job, slot)
@@ -441,7 +441,7 @@ class Driver:
         self.lines.tell(self.endings.counted())
 
     def is_wanted(self, build: Build) -> bool:
-        """Whether the driver's end waits for this build. That one failed isn't told now: what ended it may be ending the host."""
+        """Whether the driver's end waits for this build. That one failed isn't reported now: what ended it may be ending the host."""
         if build.state is State.OVER and not build.is_busy and self.endings.is_failure(build):
             build.dropped = build.dropped or "this driver ends"
         return build.state is not State.GONE or build.is_busy

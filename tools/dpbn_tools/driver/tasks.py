@@ -1,4 +1,4 @@
-"""Work that takes long, in threads beside the driver's loop: hashing, copying, laying out and removing folders."""
+"""Work that takes long, in threads next to the driver's loop: hashing, copying, laying out and removing folders."""
 from __future__ import annotations
 
 import collections
