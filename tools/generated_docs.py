@@ -287,7 +287,7 @@ def proof_page() -> str:
 
 
 def current(path: str) -> str:
-    """The text of a page as it is, or nothing if there is none."""
+    """The text of a page as it is, or nothing if it doesn't exist."""
     if not os.path.exists(path):
         return ""
     with open(path, encoding="utf-8") as file:

@@ -17,7 +17,7 @@ EXEMPT = ("tools/plain-english.txt",)
 
 
 class Place(NamedTuple):
-    """A hard word or a long sentence, and where it is."""
+    """A hard word or a long sentence, and its place."""
     path: str
     line: int
     text: str
@@ -103,7 +103,7 @@ def blocks_of_page(text: str) -> Iterator[Tuple[int, str]]:
 
 
 def blocks_of_python(text: str) -> Iterator[Tuple[int, str]]:
-    """The comments of a Python script, joined where they follow each other, and its texts."""
+    """The comments of a Python script, joined if they follow each other, and its texts."""
     comment: List[str] = []
     start = last = 0
     is_first = True
@@ -128,7 +128,7 @@ def blocks_of_python(text: str) -> Iterator[Tuple[int, str]]:
 
 
 def blocks_of_comments(text: str, mark: str) -> Iterator[Tuple[int, str]]:
-    """The comments of a source, joined where they follow each other."""
+    """The comments of a source, joined if they follow each other."""
     block: List[str] = []
     start = 0
     for number, line in enumerate([*text.split("\n"), ""], 1):

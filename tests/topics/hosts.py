@@ -191,9 +191,9 @@ def good_file(tally):
     check(tally, "a file of hosts, their addresses", file.addresses() == "192.0.2.10:7000,192.0.2.11:7001,192.0.2.12:65535", file.addresses())
     got = [tuple(host)[:-1] for host in file.hosts]
     june = "/var/dpbn/june"
-    wanted = [("oak", 0, "192.0.2.10:7000", 4, 1, june, f"{june}/work", f"{june}/store", None, "oak"),
+    wanted = [("oak", 0, "192.0.2.10:7000", 4, 1, june, None, None, None, "oak"),
               ("elm", 1, "192.0.2.11:7001", 8, 3, "e", "/build/work", "/s", "/opt/bin", "me@elm"),
-              ("fir", 2, "192.0.2.12:65535", 4, 1, june, f"{june}/work", f"{june}/store", None, "-")]
+              ("fir", 2, "192.0.2.12:65535", 4, 1, june, None, None, None, "-")]
     check(tally, "a file of hosts, each host", got == wanted, got)
     other = hosts_file.parsed("june", b"listing /l\nkey k/run.key\nbuild b\nssh ./ssh -x\nhost a 10.0.0.1:1 dir=d\n")
     got = other.listing, other.key, other.ssh, other.node

@@ -13,6 +13,7 @@ from dpbn_tools import host_files, host_store, hosts_file, run_key
 from dpbn_tools.host_folder import DRIVER, NODE, BadFolder, Folder, look, names_in
 from dpbn_tools.host_keeper import DRIVER_ENDS, NODE_ENDS, end_process, keep
 from dpbn_tools.hosts_status import line_of
+from dpbn_tools.log import BadLog
 from dpbn_tools.whole_files import put
 
 # how long a start is watched, in seconds
@@ -24,10 +25,10 @@ def main() -> None:
     os.umask(0o022)
     try:
         sys.exit(COMMANDS[asked.command](asked, Folder(asked.folder)))
-    except (BadFolder, hosts_file.BadFile, run_key.BadKey) as bad:
+    except (BadFolder, BadLog, hosts_file.BadFile, run_key.BadKey, OSError) as bad:
         sys.exit(f"dpbn-host: {bad}")
-    except OSError as error:
-        sys.exit(f"dpbn-host: {error}")
+    except (KeyError, TypeError, ValueError) as error:
+        sys.exit(f"dpbn-host: dpbn-hosts of another release asks for this: {error!r}")
 
 
 def options(given: Optional[Sequence[str]] = None) -> argparse.Namespace:
@@ -71,9 +72,8 @@ def start(asked: argparse.Namespace, folder: Folder) -> int:
 
 def has_settled(folder: Folder, state: Dict[str, Dict[str, object]], part: str) -> bool:
     """Whether the part has run for a second, or has ended."""
-    its = state.get(part, {})
-    since = its.get("since")
-    return bool(its.get("end")) or isinstance(since, float) and 0 < since < time.time() - 1 and folder.holder(part) is not None
+    since = folder.since(part)
+    return bool(state.get(part, {}).get("end")) or since is not None and since < time.time() - 1 and folder.holder(part) is not None
 
 
 def stop(_: argparse.Namespace, folder: Folder) -> int:

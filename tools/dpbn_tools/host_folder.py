@@ -8,6 +8,7 @@ import hashlib
 import json
 import os
 import re
+import time
 from typing import Any, Dict, List, Optional
 
 from dpbn_tools import hosts_file, run_key
@@ -57,10 +58,10 @@ class Folder:
 
     def work(self, host: hosts_file.Host) -> str:
         """The work folder. A path of the file is from the user's home on, as it is for ssh."""
-        return at_home(host.work)
+        return at_home(host.work) if host.work else self.at("work")
 
     def store(self, host: hosts_file.Host) -> str:
-        return at_home(host.store)
+        return at_home(host.store) if host.store else self.at("store")
 
     # ---- what a node left
 
@@ -92,6 +93,13 @@ class Folder:
     def holder(self, part: str) -> Optional[int]:
         """The process that holds a part's lock; 0 if it can't be named, None if there is none."""
         return lock_holder(self.at(f"{part}.lock"))
+
+    def since(self, part: str) -> Optional[float]:
+        """When the process that holds a part's lock was started."""
+        try:
+            return os.stat(self.at(f"{part}.lock")).st_mtime
+        except FileNotFoundError:
+            return None
 
     def state(self) -> Dict[str, Any]:
         """What the keeper wrote last."""
@@ -179,7 +187,8 @@ def look(folder: Folder) -> Dict[str, Any]:
         "path": folder.path, "name": (text_of(folder.at("name")) or "").strip() or None,
         "hosts": text_of(folder.at("hosts"), hosts_file.MAX_BYTES), "listing": digest_of(folder.at("listing")), "key": key_found(folder),
         "run": folder.run_file(), "has_begun": folder.has_begun(), "begun": folder.begun(), "keeper": folder.holder("keeper"),
-        "node": folder.holder(NODE), "driver": folder.holder(DRIVER), "state": folder.state(), "letters": folder.letters()}
+        "node": folder.holder(NODE), "driver": folder.holder(DRIVER), "state": folder.state(), "letters": folder.letters(),
+        "now": time.time(), "since": {part: folder.since(part) for part in (NODE, DRIVER)}}
     with contextlib.suppress(BadFolder):
         host = folder.host(folder.file())
         found.update(look_at_work(folder.work(host), folder.path))

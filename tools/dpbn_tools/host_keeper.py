@@ -8,13 +8,12 @@ import os
 import shutil
 import signal
 import subprocess
-import sys
 import time
-from typing import Any, Callable, Dict, List, Optional
+from typing import Any, BinaryIO, Callable, Dict, List, Optional
 
 from dpbn_tools import host_ends
 from dpbn_tools.host_ends import AGAIN, GIVEN_UP, RESTS, STOPPED, End
-from dpbn_tools.host_folder import DRIVER, NODE, Folder, tail_of
+from dpbn_tools.host_folder import DRIVER, NODE, BadFolder, Folder, tail_of
 from dpbn_tools.host_words import driver_words, environment, node_words
 from dpbn_tools.whole_files import put
 
@@ -204,12 +203,22 @@ def tell(text: str) -> None:
 
 def keep(folder: Folder, only: Optional[str], is_new: bool) -> int:
     """Holds the keeper's lock, and keeps the parts running."""
-    lock = open(folder.at("keeper.lock"), "a+b")
-    try:
-        fcntl.flock(lock, fcntl.LOCK_EX | fcntl.LOCK_NB)
-    except BlockingIOError:
-        sys.exit(f"dpbn-host: {folder.path}: another one runs here")
-    os.ftruncate(lock.fileno(), 0)
-    os.write(lock.fileno(), b"%d\n" % os.getpid())
-    with lock:
+    with open(folder.at("keeper.lock"), "a+b") as lock:
+        if not has_locked(lock):
+            raise BadFolder(f"{folder.path}: it runs already")
+        os.ftruncate(lock.fileno(), 0)
+        os.write(lock.fileno(), b"%d\n" % os.getpid())
         return Keeper(folder, only, is_new).run()
+
+
+def has_locked(lock: BinaryIO) -> bool:
+    """Locks it. Those who look whether it is locked hold it for a moment, too."""
+    end = time.monotonic() + FIRST_WAIT
+    while True:
+        try:
+            fcntl.flock(lock, fcntl.LOCK_EX | fcntl.LOCK_NB)
+            return True
+        except BlockingIOError:
+            if time.monotonic() > end:
+                return False
+            time.sleep(PAUSE / 5)

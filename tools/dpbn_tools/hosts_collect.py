@@ -163,8 +163,8 @@ def bring_large(file: HostsFile, store: Store, wanted: Dict[str, int], stores: D
         assert host
         try:
             receive(file, host, {"store": digests}, store.take)
-        except NoAnswer as no:
-            lines.append(f"{name}: {no}")
+        except (NoAnswer, OSError) as error:
+            lines.append(f"{name}: {error}")
 
     while True:
         shares = holders.shares(store.missing(wanted), wanted)
@@ -318,8 +318,8 @@ def bring_build_logs(collection: Collection) -> None:
         try:
             receive(collection.file, host, {"logs": files_below(folder)}, lambda *parts: put_touched(folder, *parts))
             return ""
-        except NoAnswer as no:
-            return f"{host.name}: {no}"
+        except (NoAnswer, OSError) as error:
+            return f"{host.name}: {error}"
 
     for line in filter(None, on_all(collection.file.hosts, bring)):
         collection.tell(line)

@@ -36,8 +36,9 @@ class Host(NamedTuple):
     jobs: int
     weight: int
     folder: str
-    work: str
-    store: str
+    # in the folder of the run if they aren't said
+    work: Optional[str]
+    store: Optional[str]
     programs: Optional[str]
     target: str
     line: int
@@ -191,8 +192,8 @@ class Draft:
             if re.search("[\x00-\x1f\x7f]", its.get(word, "")):
                 raise self.refuse(f"host {name}: {word} has a control character", line)
         jobs, weight = int(its.get("jobs", "1")), int(its.get("weight", "1"))
-        work, store = its.get("work", f"{folder}/work"), its.get("store", f"{folder}/store")
-        return Host(name, number, address, jobs, weight, folder, work, store, its.get("bin"), settings.get("ssh", name), line)
+        target = settings.get("ssh", name)
+        return Host(name, number, address, jobs, weight, folder, its.get("work"), its.get("store"), its.get("bin"), target, line)
 
 
 def parsed(path: str, text: bytes) -> HostsFile:

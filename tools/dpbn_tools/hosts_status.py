@@ -1,7 +1,6 @@
 """One line on a host."""
 from __future__ import annotations
 
-import time
 from typing import Any, Dict, Optional
 
 from dpbn_tools.host_ends import GIVEN_UP, RESTS
@@ -28,13 +27,14 @@ def amount(count: float) -> str:
     return f"{count:.0f} {unit}"
 
 
-def part_state(found: Dict[str, Any], part: str, now: float) -> str:
-    """Whether a part runs, and why not."""
+def part_state(found: Dict[str, Any], part: str) -> str:
+    """Whether a part runs, and why not. Times are by the host's own clock."""
     its = found.get("state", {}).get(part) or {}
-    if found.get(part) is not None:
-        again = f", {its['starts']} starts" if its.get("starts", 1) > 1 else ""
-        return f"up {span(now - its['since'])}{again}" if its.get("since") else "up"
-    return f"down: {its['end']}" if its.get("end") else "down"
+    if found.get(part) is None:
+        return f"down: {its['end']}" if its.get("end") else "down"
+    since = (found.get("since") or {}).get(part)
+    again = f", {its['starts']} starts" if its.get("starts", 1) > 1 else ""
+    return f"up {span(found['now'] - since)}{again}" if since else "up"
 
 
 def is_running(found: Dict[str, Any]) -> bool:
@@ -58,7 +58,7 @@ def is_well(found: Dict[str, Any]) -> bool:
     return rest.startswith("at rest, holds all") if rest else is_running(found)
 
 
-def state_of(found: Dict[str, Any], now: float) -> str:
+def state_of(found: Dict[str, Any]) -> str:
     if not found.get("name"):
         return "nothing of this run is here"
     rest = rests(found)
@@ -68,7 +68,7 @@ def state_of(found: Dict[str, Any], now: float) -> str:
         why = node_end(found, GIVEN_UP)
         text = f"down: {why}" if why else "stopped" if found.get("has_begun") else "not started yet"
         return text + steered(found)
-    parts = {part: part_state(found, part, now) for part in ("node", "driver")}
+    parts = {part: part_state(found, part) for part in ("node", "driver")}
     text = parts["node"] if is_running(found) else "; ".join(f"{part} {state}" for part, state in parts.items())
     if found.get("keeper") is None:
         text += "; nobody starts it again"
@@ -81,9 +81,9 @@ def steered(found: Dict[str, Any]) -> str:
     return f"{text}, away: {found['away'].strip()[:100]}" if found.get("away") else text
 
 
-def line_of(found: Dict[str, Any], now: Optional[float] = None) -> str:
+def line_of(found: Dict[str, Any]) -> str:
     """The line, without the host's name."""
-    words = [state_of(found, time.time() if now is None else now)]
+    words = [state_of(found)]
     if "builds" in found:
         words.append(f"builds {found['builds']}, posted {found['posted']}, failed {found['failed']}")
     if found.get("letters"):

@@ -127,7 +127,9 @@ class Driver:
 
     def wait(self) -> None:
         """Waits until something may have happened."""
-        numbers = [self.tasks.reads, *(number for number in self.reports() if number >= 0)]
+        numbers = [self.tasks.reads]
+        if time.monotonic() >= self.due.get("builds", 0.0):
+            numbers += [number for number in self.reports() if number >= 0]
         woken, _, _ = select.select(numbers, [], [], BUSY if time.monotonic() < self.busy_until else IDLE)
         if woken or self.tasks.running:
             self.is_busy()
@@ -208,8 +210,10 @@ class Driver:
 
     def look_at_builds(self) -> None:
         for build in list(self.builds):
+            # this reads the end of its pipe, too, for which nobody waits any more once it is over
+            is_gone = build.is_gone()
             self.look_at_build(build)
-            if build.state is State.GONE and not build.is_busy:
+            if build.state is State.GONE and not build.is_busy and is_gone:
                 self.builds.remove(build)
 
     def look_at_build(self, build: Build) -> None:
