@@ -52,6 +52,8 @@ class Driver:
         self.work = WorkFolder(work)
         self.logs = BuildLogs(os.path.realpath(asked.logs or f"{work}/logs"), asked.keep_logs)
         self.store = Store(os.path.realpath(asked.store or f"{work}/store"), self.work.token(), self.tasks, lines.tell)
+        # others may bring files there before this host has any
+        os.makedirs(self.store.folder, exist_ok=True)
         self.held = Held(asked.log)
         self.listed = Listed(asked.listing) if asked.listing else None
         self.limits = Limits({word: getattr(asked, word.replace("-", "_")) for word in WORDS}, asked.limits)
