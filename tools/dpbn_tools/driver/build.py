@@ -231,7 +231,7 @@ def adopted(folder: str) -> Optional[Build]:
             about = json.loads(file.read(4096))
         with open(f"{folder}/job", "rb") as file:
             build = Build(Job(str(about["job"]), file.read()), int(about["slot"]))
-    except Exception:  # pylint: disable=broad-except
+    except Exception:
         # a folder that wasn't laid out in full has no command
         return None
     build.folder, build.began, build.state = folder, float(about["began"]), State.RUNNING

@@ -10,13 +10,13 @@ from typing import Callable, Dict, List, Optional
 
 from dpbn_tools.log import BadLog, Large
 from dpbn_tools.driver.build import Build, State, adopted, remove_folder
+from dpbn_tools.driver.build_steps import BuildSteps, Changed
 from dpbn_tools.driver.buildlogs import BuildLogs
 from dpbn_tools.driver.endings import Endings
 from dpbn_tools.driver.fetches import Fetches
 from dpbn_tools.driver.health import Health
 from dpbn_tools.driver.held import Held
 from dpbn_tools.driver.job import NAME, Job, NoJob, text_of_job
-from dpbn_tools.driver.build_steps import Changed, BuildSteps
 from dpbn_tools.driver.limits import WORDS, BadLimits, Limits
 from dpbn_tools.driver.lines import Lines
 from dpbn_tools.driver.names import Listed
@@ -52,6 +52,8 @@ class Driver:
         self.work = WorkFolder(work)
         self.logs = BuildLogs(os.path.realpath(asked.logs or f"{work}/logs"), asked.keep_logs)
         self.store = Store(os.path.realpath(asked.store or f"{work}/store"), self.work.token(), self.tasks, lines.tell)
+        # others may bring files there before this host has any
+        os.makedirs(self.store.folder, exist_ok=True)
         self.held = Held(asked.log)
         self.listed = Listed(asked.listing) if asked.listing else None
         self.limits = Limits({word: getattr(asked, word.replace("-", "_")) for word in WORDS}, asked.limits)
@@ -116,11 +118,9 @@ class Driver:
             return
         try:
             step()
-        except Replaced:
+        except (Replaced, BadLog):
             raise
-        except BadLog:
-            raise
-        except Exception as error:  # pylint: disable=broad-except
+        except Exception as error:
             self.due[name] = time.monotonic() + PATIENCE
             text = str(error) if isinstance(error, (OSError, BadLimits)) else f"{type(error).__name__}: {error}"
             self.lines.tell_once(f"? it goes on in a while: {text}", (name, type(error), getattr(error, "errno", None)))
@@ -132,9 +132,9 @@ class Driver:
             numbers += [number for number in self.reports() if number >= 0]
         woken, _, _ = select.select(numbers, [], [], BUSY if time.monotonic() < self.busy_until else IDLE)
         if woken or self.tasks.running:
-            self.is_busy()
+            self.stay_awake()
 
-    def is_busy(self) -> None:
+    def stay_awake(self) -> None:
         """Something goes on, so that more may in a moment."""
         self.busy_until = time.monotonic() + LONGEST_BUSY
 
@@ -167,7 +167,7 @@ class Driver:
         came = [posted for posted in map(self.taken, names - set(self.jobs)) if posted]
         for posted in sorted(came, key=lambda it: it[0]):
             self.jobs[posted[1].job.name] = posted[1]
-            self.is_busy()
+            self.stay_awake()
         for name, posted_job in list(self.jobs.items()):
             if posted_job.job.unit in self.held.units:
                 self.drop(name, "another node built it")

@@ -133,6 +133,9 @@ class Endings:
 
     def handed_in(self, build: Build) -> None:
         unit = str(build.job)
+        if build.dropped:
+            # its job went meanwhile, and with it what has its name
+            self.steps.work.remove(f"done/{build.job.name}")
         if build.is_reused:
             self.counts["taken from earlier runs"] += 1
             self.lines.tell(f"< {unit} {time.monotonic() - build.over:.0f} s, from an earlier run")
@@ -157,6 +160,8 @@ class Endings:
         where: List[str] = []
 
         def marked() -> None:
+            if build.dropped:
+                self.steps.work.remove(f"failed/{build.job.name}")
             self.counts["failed"] += 1
             self.health.unit_ended(str(build.job), False)
             self.lines.tell(f"! {build.job} failed after {build.seconds():.0f} s: {build.failed}, see {where[-1]}")

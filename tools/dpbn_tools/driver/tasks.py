@@ -32,7 +32,7 @@ class Tasks:
         failure: Optional[Exception] = None
         try:
             result = work()
-        except Exception as error:  # pylint: disable=broad-except
+        except Exception as error:
             failure = error
         self.over.append((then, result, failure))
         self.wake()
