@@ -16,7 +16,7 @@ from dpbn_tools.driver.fetches import Fetches
 from dpbn_tools.driver.health import Health
 from dpbn_tools.driver.held import Held
 from dpbn_tools.driver.job import NAME, Job, NoJob, text_of_job
-from dpbn_tools.driver.layout import Changed, Layout
+from dpbn_tools.driver.build_steps import Changed, BuildSteps
 from dpbn_tools.driver.limits import WORDS, BadLimits, Limits
 from dpbn_tools.driver.lines import Lines
 from dpbn_tools.driver.names import Listed
@@ -33,7 +33,7 @@ BUSY, LONGEST_BUSY, IDLE = 0.02, 5, 0.05
 # before what the system refused is tried again, in seconds
 PATIENCE = 5
 # how often the files of a job that waits are looked at, and the free disk, in seconds
-FILES_EACH, FREE_EACH = 0.2, 1
+FILES_EACH, POLL_EACH, FREE_EACH = 0.2, 1, 1
 # how long a build that was asked to end may take beyond its grace before that is told, in seconds
 LONGEST_END = 5
 # how long a build of an earlier run is kept that nobody asks for, in seconds
@@ -60,8 +60,8 @@ class Driver:
         self.reuse = Reuse(os.path.realpath(asked.reuse), asked.inputs, asked.reuse_by_name) if asked.reuse else None
         pushes = Pushes(self.store, asked.push, asked.copies, self.logs.common("push.log")) if asked.copies > 1 else None
         self.pushes = pushes
-        self.layout = Layout(asked, self.work, self.logs, self.store, self.held, self.listed, self.reuse, lines)
-        self.endings = Endings(self.layout, self.tasks, self.limits, self.health, Times(f"{work}/times"), self.reuse, pushes)
+        self.steps = BuildSteps(asked, self.work, self.logs, self.store, self.held, self.listed, self.reuse, lines)
+        self.endings = Endings(self.steps, self.tasks, self.limits, self.health, Times(f"{work}/times"), self.reuse, pushes)
         self.jobs: Dict[str, Posted] = {}
         self.builds: List[Build] = []
         self.odd: Dict[str, float] = {}
@@ -240,7 +240,7 @@ class Driver:
                 self.end(build, "there is no job for it")
 
     def check_limits(self, build: Build) -> None:
-        why = self.layout.beyond(build, self.limits)
+        why = self.steps.beyond(build, self.limits)
         if why:
             build.failed = why
             self.ask_end(build)
@@ -291,7 +291,7 @@ class Driver:
         if not least:
             return ""
         if time.monotonic() >= self.free_due:
-            self.free, self.free_due = self.layout.free_bytes(), time.monotonic() + FREE_EACH
+            self.free, self.free_due = self.steps.free_bytes(), time.monotonic() + FREE_EACH
         return f"{self.free} bytes of disk are free, and {least} have to be" if self.free < least else ""
 
     def is_ready(self, posted: Posted, may_begin: bool) -> bool:
@@ -303,9 +303,11 @@ class Driver:
                 self.look_for_earlier(posted)
             return False
         now = time.monotonic()
-        if posted.unsure and now >= posted.files_due:
-            posted.files_due = now + FILES_EACH
+        if posted.unsure and now >= posted.files_due and (posted.version != self.store.version or now >= posted.poll_due):
+            posted.files_due, posted.version = now + FILES_EACH, self.store.version
             self.look_for_files(posted)
+            # others may put files into the store: the more are missing, the longer it takes to look
+            posted.poll_due = now + POLL_EACH + len(posted.unsure) / 1000
         return not posted.unsure
 
     def finds(self, posted: Posted) -> bool:
@@ -320,7 +322,7 @@ class Driver:
             if now >= posted.lacking_since + PATIENCE:
                 self.lines.tell_once(f"? {posted.job} waits: {self.held.path} hasn't all that it is to be built on")
             return False
-        why = self.layout.other_listing(posted.job, needed)
+        why = self.steps.other_listing(posted.job, needed)
         if why:
             posted.due = now + PATIENCE
             self.lines.tell_once(f"? {posted.job} waits: {why}", ("listing", why))
@@ -336,8 +338,9 @@ class Driver:
             if state is FileState.PRESENT:
                 del posted.unsure[digest]
             elif state is FileState.MISSING:
-                self.fetches.want(large, [host for host in self.held.holders(record)
-                                          if host == int(record.host) or str(host) != posted.job.host])
+                if not self.fetches.is_wanted(large):
+                    self.fetches.want(large, [host for host in self.held.holders(record)
+                                              if host == int(record.host) or str(host) != posted.job.host])
                 if self.fetches.is_missed(large):
                     missed.append(large)
         if missed:
@@ -363,7 +366,7 @@ class Driver:
             elif build.folder:
                 self.tasks.start(lambda: remove_folder(build.folder), lambda _, __: None)
 
-        self.tasks.start(lambda: self.layout.look_for_earlier(build, needed), found)
+        self.tasks.start(lambda: self.steps.look_for_earlier(build, needed), found)
 
     def begin(self, posted: Posted) -> None:
         """Begins a build: its folder is laid out beside the loop."""
@@ -389,7 +392,7 @@ class Driver:
             if build.dropped:
                 self.ask_end(build)
 
-        self.tasks.start(lambda: self.layout.lay(build), laid)
+        self.tasks.start(lambda: self.steps.lay(build), laid)
 
     def look_at_rest(self) -> None:
         """What is done once in a while."""

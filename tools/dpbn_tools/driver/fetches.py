@@ -54,6 +54,9 @@ class Fetches:
             self.wanted[large.digest] = Wanted(large, hosts)
             self.due = 0.0
 
+    def is_wanted(self, large: Large) -> bool:
+        return large.digest in self.wanted
+
     def is_missed(self, large: Large) -> bool:
         """Whether nobody gets the file, or it was tried in vain."""
         return not self.command or self.hosts.has_failed(large.digest)

@@ -29,7 +29,7 @@ class Changed(Exception):
     """A file of the store isn't as it was when it was hashed."""
 
 
-class Layout:
+class BuildSteps:
     """The words and folders that all builds share."""
 
     def __init__(self, asked: argparse.Namespace, work: WorkFolder, logs: BuildLogs, store: Store, held: Held, listed: Listed | None,
