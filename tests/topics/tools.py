@@ -6,6 +6,8 @@ import ctypes
 import json
 import os
 import re
+import resource
+import shutil
 import signal
 import subprocess
 import sys
@@ -381,16 +383,115 @@ def disturbed(tally):
             tally.add(f"unpack-log, ended by {number.name}", "" if (said, tool.returncode, left) == ((b"", b""), 128 + number, ["log"]) else f"{said}, status {tool.returncode}, left {left}")
     with tempfile.TemporaryDirectory() as folder:
         tool = unpacking(folder, text)
+        tool.kill()
+        tool.communicate(timeout=120)
+        end = time.monotonic() + 60
+        while os.listdir(folder) != ["log"] and time.monotonic() < end:
+            time.sleep(0.01)
+        tally.add("unpack-log, killed", "" if os.listdir(folder) == ["log"] else f"left {os.listdir(folder)}")
+    with tempfile.TemporaryDirectory() as folder:
+        tool = unpacking(folder, text)
         os.truncate(f"{folder}/log", 50)
-        said = tool.communicate(timeout=120)
-        tally.add("unpack-log of a log that is cut meanwhile", "" if (said, tool.returncode) == ((b"", b""), 0) else f"{said}, status {tool.returncode}")
+        _, said = tool.communicate(timeout=120)
+        got = packages.files_in(f"{folder}/out") if tool.returncode == 0 else {}
+        # it was read to its end by then, or is refused
+        right = os.listdir(folder) == ["log"] and b" isn't whole at " in said and said.count(b"\n") == 1 if tool.returncode == 1 else \
+            [got.get(f"{path.replace('/', ':')}/x") for path in paths] == [large] * len(paths)
+        tally.add("unpack-log of a log that is cut meanwhile", "" if right else f"{said}, status {tool.returncode}, {sorted(got)}")
+
+
+def flat(tally):
+    """With --flat all files are in one folder. What can't be is refused, with both packages."""
+    with tempfile.TemporaryDirectory() as folder:
+        log = f"{folder}/log"
+        write(log, packages.log(packages.NOTES))
+        said = packages.tool("unpack-log", "--flat", log, f"{folder}/out")
+        tally.add("unpack-log --flat", difference(said, (b"", b"", 0)))
+        wanted = {name.partition("/")[2] or name: text for name, text in packages.FILES.items()}
         got = packages.files_in(f"{folder}/out")
-        tally.add("the same, its files", "" if [got.get(f"{path.replace('/', ':')}/x") for path in paths] == [large] * len(paths) else f"{sorted(got)}")
+        tally.add("the same, its files", "" if got == wanted else f"{sorted(got)}, not {sorted(wanted)}")
+        cases = (("one name", [("x", b"1")], [("x", b"2")], b"a/p and a/q both have a file x: they can't be in one folder"),
+                 ("a file and a folder", [("x", b"1")], [("x/y", b"2")], b"a/p and a/q both have a file x/y: they can't be in one folder"),
+                 ("a folder and a file", [("x/y", b"1")], [("x", b"2")], b"a/p and a/q both have a file x: they can't be in one folder"),
+                 ("the list", [("y", b"1")], [("list", b"2")], b"unpack-log itself and a/q both have a file list: they can't be in one folder"))
+        for name, one, other, told in cases:
+            notes = [packages.note(4, path, packages.build(packages.record(path, "p-1", files))) for path, files in (("a/p", one), ("a/q", other))]
+            write(log, packages.log(notes))
+            said = packages.tool("unpack-log", "--flat", log, f"{folder}/other")
+            right = said == (b"", b"unpack-log: %s: %s\n" % (log.encode(), told), 1) and sorted(os.listdir(folder)) == ["log", "out"]
+            tally.add(f"unpack-log --flat of {name}", "" if right else f"{said}, left {os.listdir(folder)}")
+        odd = packages.record("c/d", "d-2", [("x", b"x"), ("x/y", b"y")])
+        write(log, packages.log([packages.note(4, "c/d", packages.build(odd))]))
+        packages.tool("unpack-log", "--flat", log, f"{folder}/other")
+        got = packages.files_in(f"{folder}/other")
+        tally.add("unpack-log --flat of a record alone", "" if got.get("@record.c:d") == odd and len(got) == 3 else f"{sorted(got)}")
+
+
+def write(path, text):
+    with open(path, "wb") as file:
+        file.write(text)
+
+
+def linked(tally):
+    """With --link a file of the store gets a second name; what has another digest there isn't linked; without a store it is a wrong word."""
+    text = b"z" * 100_000
+    digest = packages.digest(text)
+    stands = f"SHA256 (z.tgz) = {digest}\nSIZE (z.tgz) = {len(text)}\n".encode()
+    with tempfile.TemporaryDirectory() as folder:
+        write(f"{folder}/log", packages.log([packages.note(4, "a/b", packages.build(packages.record("a/b", "b-1", [("z.tgz.sha256", stands)])))]))
+        os.mkdir(f"{folder}/store")
+        for place, stored, count in (("good", text, 2), ("copied", text, 1), ("bad", text[1:], 0)):
+            write(f"{folder}/store/{digest}", stored)
+            words = ["--store", f"{folder}/store", *(["--link"] if place != "copied" else []), "--flat", f"{folder}/log", f"{folder}/{place}"]
+            out, said, status = packages.tool("unpack-log", *words)
+            told = b"unpack-log: a/b lacks z.tgz: %s/store has no file %s\n" % (folder.encode(), digest.encode()) if not count else b""
+            got = packages.files_in(f"{folder}/{place}")
+            links = os.stat(f"{folder}/{place}/z.tgz").st_nlink if "z.tgz" in got else 0
+            right = (out, said, status, links) == (b"", told, 0, count) and got.get("z.tgz", text) == text and ("z.tgz.sha256" in got) == (not count)
+            tally.add(f"unpack-log --link, {place}", "" if right else f"{said}, status {status}, {links} links, {sorted(got)}")
+            os.unlink(f"{folder}/store/{digest}")
+        _, said, status = packages.tool("unpack-log", "--link", f"{folder}/log", f"{folder}/none")
+        tally.add("unpack-log --link without a store", "" if status == 2 and b"--link needs --store" in said else f"{said}, status {status}")
+
+
+def in_parts(tally):
+    """A log of 160 MB is unpacked where a program may have 120 MiB of memory, and where a full disk ends it nothing is left."""
+    large = os.urandom(4_000_000)
+    notes = [packages.note(4, f"p/n{n}", packages.build(packages.record(f"p/n{n}", "n-1", [("x", large)]))) for n in range(40)]
+    with tempfile.TemporaryDirectory() as folder:
+        write(f"{folder}/log", packages.log(notes))
+        limited = lambda: resource.setrlimit(resource.RLIMIT_AS, (120 << 20, 120 << 20))
+        done = subprocess.run([f"{TOP}/tools/unpack-log", f"{folder}/log", f"{folder}/out"], capture_output=True, timeout=120, preexec_fn=limited)
+        sizes = [os.path.getsize(f"{folder}/out/p:n{n}/x") for n in range(40)] if done.returncode == 0 else []
+        tally.add("unpack-log of 160 MB in 120 MiB", "" if sizes == [4_000_000] * 40 else f"{done.stderr!r}, status {done.returncode}")
+        short = lambda: resource.setrlimit(resource.RLIMIT_FSIZE, (1 << 20, 1 << 20))
+        done = subprocess.run([f"{TOP}/tools/unpack-log", f"{folder}/log", f"{folder}/other"], capture_output=True, timeout=120, preexec_fn=short)
+        right = done.returncode == 1 and done.stderr.startswith(b"unpack-log: ") and sorted(os.listdir(folder)) == ["log", "out"]
+        tally.add("unpack-log that can't write", "" if right else f"{done.stderr!r}, status {done.returncode}, left {os.listdir(folder)}")
+
+
+def synced(tally):
+    """Each file and folder is synced before the folder has its name, and the name after that."""
+    if not shutil.which("strace"):
+        tally.skip("unpack-log syncs what it writes", "there is no strace here")
+        return
+    with tempfile.TemporaryDirectory() as folder:
+        write(f"{folder}/log", packages.log(packages.NOTES))
+        words = ["strace", "-f", "-y", "-e", "trace=fsync,rename,renameat,renameat2", "-o", f"{folder}/calls", f"{TOP}/tools/unpack-log", f"{folder}/log", f"{folder}/out"]
+        done = subprocess.run(words, capture_output=True, timeout=120)
+        before, _, after = contents(f"{folder}/calls").decode().partition("rename")
+        count = len(packages.FILES) + len([it for it in os.listdir(f"{folder}/out") if ":" in it]) + 2
+        right = done.returncode == 0 and before.count("fsync(") == count and after.count("fsync(") == 1
+        tally.add("unpack-log syncs what it writes", "" if right else f"{before.count('fsync(')} before, not {count}, {after!r:.200}, {done.stderr!r:.200}")
 
 
 def taken_away(tally):
     odd_package(tally)
     disturbed(tally)
+    flat(tally)
+    linked(tally)
+    in_parts(tally)
+    synced(tally)
 
 
 def case(tally, kind, name):

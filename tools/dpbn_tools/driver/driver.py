@@ -55,10 +55,10 @@ class Driver:
         self.held = Held(asked.log)
         self.listed = Listed(asked.listing) if asked.listing else None
         self.limits = Limits({word: getattr(asked, word.replace("-", "_")) for word in WORDS}, asked.limits)
-        self.fetches = Fetches(self.store, asked.fetch, self.logs.common("fetch.log"), self.tasks, lines.tell)
+        self.fetches = Fetches(self.store, asked.fetch, lambda: self.logs.common("fetch.log"), self.tasks, lines.tell)
         self.health = Health(self.work, asked.ready, lambda: self.logs.common("ready.log"), lines.tell)
         self.reuse = Reuse(os.path.realpath(asked.reuse), asked.inputs, asked.reuse_by_name) if asked.reuse else None
-        pushes = Pushes(self.store, asked.push, asked.copies, self.logs.common("push.log")) if asked.copies > 1 else None
+        pushes = Pushes(self.store, asked.push, asked.copies, lambda: self.logs.common("push.log")) if asked.copies > 1 else None
         self.pushes = pushes
         self.steps = BuildSteps(asked, self.work, self.logs, self.store, self.held, self.listed, self.reuse, lines)
         self.endings = Endings(self.steps, self.tasks, self.limits, self.health, Times(f"{work}/times"), self.reuse, pushes)
@@ -127,7 +127,9 @@ class Driver:
 
     def wait(self) -> None:
         """Waits until something may have happened."""
-        numbers = [self.tasks.reads, *(number for number in self.reports() if number >= 0)]
+        numbers = [self.tasks.reads]
+        if time.monotonic() >= self.due.get("builds", 0.0):
+            numbers += [number for number in self.reports() if number >= 0]
         woken, _, _ = select.select(numbers, [], [], BUSY if time.monotonic() < self.busy_until else IDLE)
         if woken or self.tasks.running:
             self.is_busy()
@@ -196,7 +198,7 @@ class Driver:
 
     def end(self, build: Build, why: str) -> None:
         """Has a build ended that nobody waits for."""
-        build.dropped = build.dropped or why
+        build.dropped, build.due = build.dropped or why, 0.0
         if build.state is State.RUNNING:
             self.ask_end(build)
 
@@ -208,8 +210,10 @@ class Driver:
 
     def look_at_builds(self) -> None:
         for build in list(self.builds):
+            # this reads the end of its pipe, too, for which nobody waits any more once it is over
+            is_gone = build.is_gone()
             self.look_at_build(build)
-            if build.state is State.GONE and not build.is_busy:
+            if build.state is State.GONE and not build.is_busy and is_gone:
                 self.builds.remove(build)
 
     def look_at_build(self, build: Build) -> None:

@@ -1,0 +1,352 @@
+"""Brings logs, large files and packages of a run to this host."""
+from __future__ import annotations
+
+import contextlib
+import hashlib
+import json
+import os
+import shutil
+import subprocess
+import sys
+import tarfile
+import threading
+from typing import Any, BinaryIO, Callable, Dict, IO, List, Optional, Set, Tuple, cast
+
+from dpbn_tools.host_store import DIGEST
+from dpbn_tools.hosts_file import Host, HostsFile
+from dpbn_tools.hosts_remote import NoAnswer, ask, json_of, why_not, words_for
+from dpbn_tools.hosts_start import on_all
+from dpbn_tools.log import HELD, BadLog, LogFile
+from dpbn_tools.log_copies import Copy
+from dpbn_tools.whole_files import new_name, sync
+
+# what is done with each file of an archive: its name, its bytes, its size, and when it was touched, in nanoseconds
+Take = Callable[[str, BinaryIO, int, int], None]
+MAX_ERRORS = 65_536
+
+
+def receive(file: HostsFile, host: Host, asked: Dict[str, Any], take: Take) -> None:
+    """Has a host send what is asked for, and takes each file that comes."""
+    command = words_for(file, host, ["send", host.folder])
+    with subprocess.Popen(command, stdin=subprocess.PIPE, stdout=subprocess.PIPE, stderr=subprocess.PIPE) as process:
+        errors: List[bytes] = []
+        reader = threading.Thread(target=lambda: errors.append(cast(IO[bytes], process.stderr).read()[-MAX_ERRORS:]), daemon=True)
+        reader.start()
+        broken: Optional[Exception] = None
+        try:
+            give(cast(IO[bytes], process.stdin), json.dumps(asked).encode())
+            with tarfile.open(fileobj=process.stdout, mode="r|", bufsize=1 << 20) as tar:
+                for member in tar:
+                    data = tar.extractfile(member)
+                    if member.isreg() and data:
+                        take(member.name, cast(BinaryIO, data), member.size, int(member.pax_headers.get("touched", "0")))
+        except (tarfile.TarError, EOFError, BadLog, NoAnswer) as error:
+            broken = error
+        except BaseException:
+            process.kill()
+            raise
+        cast(IO[bytes], process.stdout).close()
+        status = process.wait()
+        reader.join()
+    if status > 0:
+        raise NoAnswer(why_not(status, b"".join(errors)))
+    if broken:
+        raise NoAnswer(f"what came broke off: {broken}")
+
+
+def give(stream: IO[bytes], data: bytes) -> None:
+    with contextlib.suppress(BrokenPipeError):
+        stream.write(data)
+    with contextlib.suppress(BrokenPipeError):
+        stream.close()
+
+
+# ---- logs
+
+def log_path(folder: str, host: Host) -> str:
+    return f"{folder}/logs/node-{host.number}.log"
+
+
+def bring_log(file: HostsFile, host: Host, folder: str) -> None:
+    """Brings the copy of a host's log up to date."""
+    os.makedirs(f"{folder}/logs", exist_ok=True)
+    copy = Copy(log_path(folder, host))
+    place, digest = copy.place()
+
+    def take(name: str, data: BinaryIO, size: int, _: int) -> None:
+        word, _at, start = name.partition("@")
+        if word != "log" or not start.isdigit() or int(start) not in (0, place):
+            raise NoAnswer(f"it sends {name!a} in place of its log")
+        copy.take(int(start), data, size)
+
+    receive(file, host, {"log": {"from": place, "digest": digest}}, take)
+
+
+def held_in(path: str) -> Tuple[Set[bytes], Dict[str, int]]:
+    """The units that a log holds, and the large files that they need, with their sizes."""
+    units: Set[bytes] = set()
+    large: Dict[str, int] = {}
+    with LogFile(path) as log:
+        for note in log.notes():
+            if note.kind == HELD and note.unit not in units:
+                units.add(note.unit)
+                large.update((it.digest, it.size) for record in note.records for it in record.large)
+    return units, large
+
+
+# ---- large files
+
+class Store:
+    """The large files on this host, each under its SHA-256."""
+
+    def __init__(self, path: str) -> None:
+        self.path = path
+        os.makedirs(path, exist_ok=True)
+
+    def missing(self, wanted: Dict[str, int]) -> List[str]:
+        return sorted(digest for digest, size in wanted.items() if not self.has(digest, size))
+
+    def has(self, digest: str, size: int) -> bool:
+        try:
+            return os.path.getsize(f"{self.path}/{digest}") == size
+        except FileNotFoundError:
+            return False
+
+    def take(self, name: str, data: BinaryIO, _size: int, _touched: int) -> None:
+        """Takes a file if it has the digest of its name; another one is passed over, and asked for at another host."""
+        if not DIGEST.fullmatch(name):
+            raise NoAnswer(f"it sends {name!a} in place of a large file")
+        path = f"{self.path}/{name}"
+        new, digest = new_name(path), hashlib.sha256()
+        try:
+            with open(new, "xb") as file:
+                for part in iter(lambda: data.read(1 << 20), b""):
+                    digest.update(part)
+                    file.write(part)
+                file.flush()
+                os.fsync(file.fileno())
+            if digest.hexdigest() == name:
+                os.chmod(new, 0o444)
+                os.rename(new, path)
+        finally:
+            if os.path.lexists(new):
+                os.unlink(new)
+
+
+class Holders:
+    """Which hosts have which large files, and how much was asked of each."""
+
+    def __init__(self, stores: Dict[str, Dict[str, int]]) -> None:
+        self.stores, self.load = stores, dict.fromkeys(stores, 0)
+
+    def shares(self, digests: List[str], sizes: Dict[str, int]) -> Dict[str, List[str]]:
+        """Which files each host is asked for: one that has the file, and that is asked for least so far. It isn't asked a second time."""
+        shares: Dict[str, List[str]] = {}
+        for digest in digests:
+            names = [name for name, store in self.stores.items() if store.get(digest) == sizes[digest]]
+            if names:
+                name = min(names, key=lambda it: self.load[it])
+                self.load[name] += sizes[digest]
+                del self.stores[name][digest]
+                shares.setdefault(name, []).append(digest)
+        return shares
+
+
+def bring_large(file: HostsFile, store: Store, wanted: Dict[str, int], stores: Dict[str, Dict[str, int]]) -> List[str]:
+    """Brings the large files from whoever has them. Returns lines on what went wrong."""
+    lines: List[str] = []
+    holders = Holders(stores)
+
+    def bring(share: Tuple[str, List[str]]) -> None:
+        name, digests = share
+        host = file.named(name)
+        assert host
+        try:
+            receive(file, host, {"store": digests}, store.take)
+        except (NoAnswer, OSError) as error:
+            lines.append(f"{name}: {error}")
+
+    while True:
+        shares = holders.shares(store.missing(wanted), wanted)
+        if not shares:
+            break
+        run_all(list(shares.items()), bring)
+    sync(store.path)
+    missing = store.missing(wanted)
+    if missing:
+        lines.append(f"{len(missing)} large files are on no host that answered, the first: {missing[0]}")
+    return lines
+
+
+def run_all(items: List[Any], call: Callable[[Any], None]) -> None:
+    threads = [threading.Thread(target=call, args=(item,)) for item in items]
+    for thread in threads:
+        thread.start()
+    for thread in threads:
+        thread.join()
+
+
+# ---- all of it
+
+class Collection:
+    """What is brought into a folder of this host."""
+
+    def __init__(self, file: HostsFile, folder: str) -> None:
+        self.file, self.folder = file, folder
+        self.lines: List[str] = []
+
+    def tell(self, text: str) -> None:
+        print(f"dpbn-hosts: {text}", file=sys.stderr, flush=True)
+        self.lines.append(text)
+
+    def logs(self) -> Dict[str, Set[bytes]]:
+        """Brings the logs. Returns the units that each of them holds."""
+        def bring(host: Host) -> str:
+            try:
+                bring_log(self.file, host, self.folder)
+                return ""
+            except (NoAnswer, OSError) as error:
+                return f"{host.name}: {error}"
+
+        for line in filter(None, on_all(self.file.hosts, bring)):
+            self.tell(line)
+        self.large: Dict[str, int] = {}
+        units = {}
+        for host in self.file.hosts:
+            path = log_path(self.folder, host)
+            try:
+                units[host.name], large = held_in(path)
+                self.large.update(large)
+            except FileNotFoundError:
+                continue
+            except BadLog as bad:
+                self.tell(f"{host.name}: {path}: {bad}")
+        return units
+
+    def stores(self) -> Dict[str, Dict[str, int]]:
+        def contents(host: Host) -> Dict[str, int]:
+            try:
+                found = json_of(ask(self.file, host, ["contents", host.folder])).get("store")
+                return found if isinstance(found, dict) else {}
+            except NoAnswer:
+                return {}
+
+        return {host.name: store for host, store in zip(self.file.hosts, on_all(self.file.hosts, contents))}
+
+    def times(self) -> None:
+        """Puts the times of builds of all hosts into one file, for the next bulk."""
+        found: Dict[str, List[bytes]] = {}
+
+        def bring(host: Host) -> None:
+            def take(name: str, data: BinaryIO, _size: int, _touched: int) -> None:
+                if name == "times":
+                    found[host.name] = data.read().splitlines(keepends=True)
+
+            with contextlib.suppress(NoAnswer):
+                receive(self.file, host, {"times": True}, take)
+
+        on_all(self.file.hosts, bring)
+        text = b"".join(line for host in self.file.hosts for line in found.get(host.name, []) if line.endswith(b"\n"))
+        if text:
+            with open(f"{self.folder}/times", "wb") as out:
+                out.write(text)
+
+    def packages(self, units: Dict[str, Set[bytes]], flat: bool) -> None:
+        """Unpacks the log that holds most into `packages`, which comes into place whole."""
+        if not units:
+            self.tell("no log came, so there are no packages")
+            return
+        best = max(units, key=lambda name: len(units[name]))
+        more = len(set().union(*units.values()) - units[best])
+        if more:
+            self.tell(f"the log of {best} lacks {more} units that others hold: let its node come to rest, and collect again")
+        host = self.file.named(best)
+        assert host
+        unpack(self.folder, log_path(self.folder, host), flat, self.tell)
+        print(f"{len(units[best])} units, by the log of {best}: {self.folder}/packages", flush=True)
+
+
+def beside(name: str) -> str:
+    """Another tool, beside this one or on the PATH."""
+    own = os.path.join(os.path.dirname(os.path.abspath(sys.argv[0])), name)
+    return own if os.path.exists(own) else name
+
+
+def unpack(folder: str, log: str, flat: bool, tell: Callable[[str], None]) -> None:
+    """Runs unpack-log(1), and puts its folder in place of the one of an earlier time."""
+    new, old, place = f"{folder}/packages.new", f"{folder}/packages.old", f"{folder}/packages"
+    for path in (new, old):
+        remove(path)
+    words = [beside("unpack-log"), "--store", f"{folder}/store", "--link", *(["--flat"] if flat else []), log, new]
+    done = subprocess.run(words, stdin=subprocess.DEVNULL, stdout=subprocess.PIPE, stderr=subprocess.PIPE, check=False)
+    for line in done.stderr.decode("utf-8", "replace").splitlines():
+        tell(line)
+    if done.returncode:
+        raise NoAnswer("unpack-log failed, and packages is what it was")
+    if os.path.lexists(place):
+        os.rename(place, old)
+    os.rename(new, place)
+    remove(old)
+
+
+def remove(path: str) -> None:
+    if os.path.lexists(path):
+        shutil.rmtree(path)
+
+
+def collect(file: HostsFile, folder: str, flat: bool, build_logs: bool) -> int:
+    """Brings all. Returns the program's status."""
+    os.makedirs(folder, exist_ok=True)
+    collection = Collection(file, folder)
+    units = collection.logs()
+    wanted = collection.large
+    store = Store(f"{folder}/store")
+    for line in bring_large(file, store, wanted, collection.stores()):
+        collection.tell(line)
+    collection.times()
+    if build_logs:
+        bring_build_logs(collection)
+    collection.packages(units, flat)
+    return 1 if collection.lines else 0
+
+
+def bring_build_logs(collection: Collection) -> None:
+    """Brings the logs of all builds, into a folder for each host."""
+    def bring(host: Host) -> str:
+        folder = f"{collection.folder}/build-logs/{host.name}"
+        os.makedirs(folder, exist_ok=True)
+        try:
+            receive(collection.file, host, {"logs": files_below(folder)}, lambda *parts: put_touched(folder, *parts))
+            return ""
+        except (NoAnswer, OSError) as error:
+            return f"{host.name}: {error}"
+
+    for line in filter(None, on_all(collection.file.hosts, bring)):
+        collection.tell(line)
+
+
+def files_below(folder: str) -> Dict[str, int]:
+    """The files below a folder by name, and when each was touched, in nanoseconds."""
+    found: Dict[str, int] = {}
+    for place, _, names in os.walk(folder):
+        for name in names:
+            path = os.path.join(place, name)
+            found[os.path.relpath(path, folder)] = os.stat(path).st_mtime_ns
+    return found
+
+
+def put_touched(folder: str, name: str, data: BinaryIO, _size: int, touched: int) -> None:
+    """Writes a file that comes into place whole, with the time at which it was touched at its host."""
+    if any(part in ("", ".", "..") for part in name.split("/")):
+        raise NoAnswer(f"it sends a file of the name {name!a}")
+    path = f"{folder}/{name}"
+    os.makedirs(os.path.dirname(path), exist_ok=True)
+    new = new_name(path)
+    try:
+        with open(new, "xb") as file:
+            shutil.copyfileobj(data, file)
+        os.utime(new, ns=(touched, touched))
+        os.rename(new, path)
+    finally:
+        if os.path.lexists(new):
+            os.unlink(new)
