@@ -134,10 +134,19 @@ def until(holds, seconds: float = 60) -> bool:
     return bool(holds())
 
 
+def removed(folder: str) -> bool:
+    shutil.rmtree(folder, ignore_errors=True)
+    return not os.path.exists(folder)
+
+
 @contextlib.contextmanager
 def laid() -> Iterator[Place]:
-    with tempfile.TemporaryDirectory() as folder:
+    folder = tempfile.mkdtemp()
+    try:
         yield Place(folder)
+    finally:
+        # what is ended on the host may write for some seconds
+        until(lambda: removed(folder), MOST + MORE)
 
 
 SAW = "./a:b/.signature\n./a:b/b-1.tgz\n./c:d,-main/same\n./c:d,-main/sub folder/it's.tgz\n"
