@@ -72,6 +72,7 @@ def locks(tally) -> None:
 def places_without_flock(tally) -> None:
     """build-over-ssh needs no flock(1) where the driver says which place a job has, and sha256(1) in place of sha256sum."""
     if not shutil.which("mksh") and not shutil.which("oksh"):
+        tally.skip("build-over-ssh by a ksh", "there is no mksh and no oksh here")
         return
     with ssh.laid() as place:
         with open(f"{place.folder}/go", "w", encoding="utf-8") as file:

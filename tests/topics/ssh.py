@@ -134,10 +134,19 @@ def until(holds, seconds: float = 60) -> bool:
     return bool(holds())
 
 
+def removed(folder: str) -> bool:
+    shutil.rmtree(folder, ignore_errors=True)
+    return not os.path.exists(folder)
+
+
 @contextlib.contextmanager
 def laid() -> Iterator[Place]:
-    with tempfile.TemporaryDirectory() as folder:
+    folder = tempfile.mkdtemp()
+    try:
         yield Place(folder)
+    finally:
+        # what is ended on the host may write for some seconds
+        until(lambda: removed(folder), MOST + MORE)
 
 
 SAW = "./a:b/.signature\n./a:b/b-1.tgz\n./c:d,-main/same\n./c:d,-main/sub folder/it's.tgz\n"
@@ -221,7 +230,7 @@ def away(tally) -> None:
 def free_places(tally) -> None:
     """Where the driver doesn't say which place this is, each job takes one that is free."""
     if not shutil.which("flock"):
-        print("tests/run: no flock here: places that nobody names are not tried", flush=True)
+        tally.skip("build-over-ssh without SLOT", "there is no flock here")
         return
     with laid() as place:
         place.file("ob1/wait", "600")
@@ -425,7 +434,7 @@ def real_sshd(folder: str) -> Iterator[str]:
 
 def real(tally) -> None:
     if not shutil.which("sshd", path="/usr/sbin:/usr/bin") or not shutil.which("ssh-keygen"):
-        print("tests/run: no sshd here: build-over-ssh is tried with an ssh that is played alone", flush=True)
+        tally.skip("build-over-ssh with a real sshd", "there is no sshd here: Debian's openssh-server has it")
         return
     with laid() as place, real_sshd(place.folder) as ssh:
         place.ssh, place.hosts = ssh, f"{place.folder}/hosts"

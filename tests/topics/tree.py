@@ -165,12 +165,11 @@ def laid_awk(folder: str, words: List[str]) -> Dict[str, str]:
     return {"PATH": f"{folder}/bin:{os.environ['PATH']}"}
 
 
-def skipped(name: str) -> bool:
-    """Whether the machine lacks a program, which is printed."""
-    if shutil.which(name):
-        return False
-    print(f"tests/run: no {name} here: make-listing is not tried with it", flush=True)
-    return True
+def skipped(tally, name: str) -> bool:
+    """Whether the machine lacks a program: then what would be tried with it is skipped."""
+    if not shutil.which(name):
+        tally.skip(f"make-listing with {name}", f"there is no {name} here")
+    return not shutil.which(name)
 
 
 def cases(tally) -> None:
@@ -184,14 +183,14 @@ def cases(tally) -> None:
                 case.wanted = MULTI_LISTED
             case.run(tally, [], {}, "")
     for name, words in AWKS.items():
-        if not skipped(words[0]):
+        if not skipped(tally, words[0]):
             with tempfile.TemporaryDirectory() as folder:
                 more = laid_awk(folder, words)
                 for case in GOOD + BAD:
                     if case.name != "without some":
                         case.run(tally, [], more, f", with {name}")
     for shell in SHELLS:
-        if not skipped(shell):
+        if not skipped(tally, shell):
             for case in GOOD[:4] + GOOD[-2:-1] + BAD[-2:]:
                 case.run(tally, [str(shutil.which(shell))], {}, f", with {shell}")
 
@@ -271,11 +270,11 @@ def too_large(tally) -> None:
 def real_make(tally) -> None:
     """A small tree of Makefiles by bmake(1): folders of ports, flavors, a default one and none, pseudo-flavors, subpackages, errors."""
     if not shutil.which("bmake"):
-        print("tests/run: no bmake here: make-listing is tried with a make that is played alone", flush=True)
+        tally.skip("make-listing on a tree of Makefiles", "there is no bmake here")
         return
-    wanted = contents(f"{TESTS}/ports.listing").decode()
+    wanted = contents(f"{TESTS}/small-tree/listing").decode()
     for words in ((".",), (".", "--only", "net/needs")):
-        done = subprocess.run([f"{TOP}/tools/make-listing", *words], cwd=f"{TESTS}/ports", stdin=subprocess.DEVNULL, capture_output=True, timeout=LIMIT,
+        done = subprocess.run([f"{TOP}/tools/make-listing", *words], cwd=f"{TESTS}/small-tree", stdin=subprocess.DEVNULL, capture_output=True, timeout=LIMIT,
                               env={**os.environ, "MAKE": "bmake"}, check=False)
         # where make is, and how it says that, are its own
         got = re.sub(r'error: .* "Fatal', 'error: MESSAGE "Fatal', done.stdout.decode())
