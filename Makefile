@@ -21,6 +21,8 @@ install: all
 		install -d $(DESTDIR)$(SHAREDIR)/$$part || exit 1; \
 		for module in tools/$$part/*.py; do install -m 644 $$module $(DESTDIR)$(SHAREDIR)/$$part/ || exit 1; done; \
 	done
+	install -d $(DESTDIR)$(SHAREDIR)/examples
+	install -m 755 examples/build-port $(DESTDIR)$(SHAREDIR)/examples/
 	install -m 644 tools/dpbn_tools/page.html $(DESTDIR)$(SHAREDIR)/dpbn_tools/
 	for service in services/*; do \
 		sed "s|@BINDIR@|$(BINDIR)|" $$service > $(DESTDIR)$(SHAREDIR)/$$service && chmod 644 $(DESTDIR)$(SHAREDIR)/$$service || exit 1; \

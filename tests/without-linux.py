@@ -12,6 +12,7 @@ import shutil
 import signal
 import socket
 import sys
+import tempfile
 from typing import Any, Callable, Tuple
 
 GONE = {
@@ -59,6 +60,9 @@ def take_away() -> None:
     for name in ("_USE_CP_SENDFILE", "_HAS_FCOPYFILE", "_USE_CP_COPY_FILE_RANGE"):
         if hasattr(shutil, name):
             setattr(shutil, name, False)
+    # these modules look for what there is when they are imported
+    setattr(tempfile, "_O_TMPFILE_WORKS", False)
+    setattr(shutil, "_copyxattr", lambda *_, **__: None)
     if os.environ.get("NO_FLOCK"):
         fcntl.flock = without_flock  # type: ignore[assignment]
     for name in ("stat", "lstat", "readlink"):

@@ -31,7 +31,7 @@ def lock_out_of_sight(tally):
 
 # a long one, which ends while a large one is hashed: 256 MiB of zeros that take no room
 OVER = ('d="$OUT/$(echo $PKGPATH | tr / :)"; mkdir "$d"; echo > "$TOP/began.$(basename $PKGPATH)"; until [ -e "$TOP/go" ]; do sleep 0.05; done; '
-        'echo made > "$d/f"; [ $PKGPATH != a/big ] || truncate -s 256M "$d/core"; echo > "$TOP/over.$(basename $PKGPATH)"')
+        'echo made > "$d/f"; [ $PKGPATH != a/big ] || dd if=/dev/null of="$d/core" bs=1 seek=268435456 2>/dev/null; echo > "$TOP/over.$(basename $PKGPATH)"')
 
 
 def what_is_over_at_a_signal(tally):
@@ -74,7 +74,7 @@ def lines_that_nobody_reads(tally):
 
 def a_large_answer(tally):
     """While a large file is hashed other jobs begin at once, and the store has them without a copy."""
-    script = 'd="$OUT/$(echo $PKGPATH | tr / :)"; mkdir "$d"; if [ $PKGPATH = a/big ]; then truncate -s 512M "$d/core"; fi; echo > "$TOP/over.$(basename $PKGPATH)"'
+    script = 'd="$OUT/$(echo $PKGPATH | tr / :)"; mkdir "$d"; if [ $PKGPATH = a/big ]; then dd if=/dev/null of="$d/core" bs=1 seek=536870912 2>/dev/null; fi; echo > "$TOP/over.$(basename $PKGPATH)"'
     with laid(script, "-j", "2", "--digests", "1000000") as (node, driver):
         big = node.post("a/big")
         until(lambda: has_text(f"{node.folder}/over.big"))

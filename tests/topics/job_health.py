@@ -82,13 +82,15 @@ def away(tally):
     """After three such ends of different units the host is away until --ready says otherwise; that is one line, and a file for the node."""
     with node_alone() as node:
         ready = 'echo >> "$TOP/asked"; [ -e "$TOP/up" ]'
-        driver = Driver(node, f'[ -e "$TOP/up" ] || exit 75; {MAKE}', "-j", "2", "--ready", ready, minute=1.5)
+        driver = Driver(node, f'[ -e "$TOP/up" ] || exit 75; {MAKE}', "-j", "2", "--ready", ready, minute=3.0)
         names = [node.post(f"a/p{number}") for number in range(6)]
         is_away = until(lambda: has_text(f"{node.work}/away"))
+        # what was about to begin has begun, and ended
+        time.sleep(1)
         told = [line for line in driver.lines() if line.startswith("~ this host begins nothing until its --ready command ends with 0: ")]
         count = driver.begun()
         add(tally, "a host that can't build", is_away and len(told) == 1 and 3 <= count <= 5 and os.listdir(f"{node.work}/failed") == [], told, count, driver.lines())
-        time.sleep(4)
+        time.sleep(7)
         asked = read(f"{node.folder}/asked").count("\n")
         add(tally, "the same, how often it is asked", 1 <= asked <= 4 and driver.begun() == count and has_text(f"{node.work}/away"), asked, driver.lines())
         with open(f"{node.folder}/up", "w"):
@@ -106,6 +108,7 @@ def away_without_a_command(tally):
         gone = until(lambda: not os.path.exists(f"{node.work}/away"))
         names = [node.post(f"a/p{number}") for number in range(4)]
         is_away = until(lambda: has_text(f"{node.work}/away"))
+        time.sleep(0.3)
         first = driver.begun()
         back = driver.tells("~ this host begins builds again, .*")
         again = until(lambda: has_text(f"{node.work}/away") and driver.begun() > first)

@@ -1,10 +1,13 @@
 """Bulks after the first: tools/build-jobs with --reuse hands in what was built on the same bytes before, and builds the rest."""
 import os
 import re
+import shutil
+import subprocess
 import time
 
 from topics import packages
-from topics.played import Driver, Node, add, node_alone, read, until
+from topics.played import LIMIT, Driver, Node, add, node_alone, read, until
+from topics.tally import TESTS
 
 # a tree of ports: what each needs
 TREE = {"a/base": [], "a/lib": ["a/base"], "a/tool": ["a/base"], "b/app": ["a/lib", "a/tool"], "b/doc": [], "c/top": ["b/app", "b/doc"]}
@@ -123,6 +126,84 @@ def spoiled(tally):
         bulk.driver.end()
 
 
+class Makefiles(Bulk):
+    """The same for a tree of Makefiles, by bmake(1)."""
+
+    def __init__(self, top, number, order, listed):
+        self.order, self.listed = order, listed
+        super().__init__(top, number, listed["names"])
+        self.driver.end()
+        words = ["--listing", f"{self.folder}/listing", "--reuse", f"{top}/kept", "--inputs", f'cat "{top}/tree/${{PKGPATH%%,*}}/Makefile"']
+        self.driver = Driver(self.node, f'exec bmake -f "{top}/tree/${{PKGPATH%%,*}}/Makefile" package', *words)
+
+    def run(self):
+        for port in self.order:
+            self.post(port)
+        self.driver.end()
+        return sorted(re.match("> ([^,]*), on", line)[1] for line in self.driver.lines() if line.startswith("> "))
+
+    def post(self, port):
+        paths = sorted(path for path in self.names if path.partition(",")[0] == port)
+        run = sorted({it for path in paths for it in self.listed["run"].get(path, ())})
+        unit = port if len(paths) > 1 else paths[0]
+        name = self.node.post(unit, paths, sorted(self.listed["needs"][port]), run)
+        until(lambda: os.path.exists(f"{self.node.work}/done/{name}"), 30)
+        self.node.hold(unit, self.node.files(name), self.node.posted[name][2], run, names=self.names)
+
+
+def tree_of_makefiles(top):
+    """Makes the tree. Returns its ports in an order in which they can be built, and what its listing says."""
+    subprocess.run([f"{TESTS}/live/make-tree", f"{top}/tree", "--ports", "14", "--seed", "8", "--least", "0", "--most", "0"], check=True, timeout=LIMIT)
+    order = read(f"{top}/tree/order").split()
+    names, run, needs = {}, {}, {}
+    for port in order:
+        found = re.search("NEEDS = (.*)", read(f"{top}/tree/{port}/Makefile"))
+        needs[port] = found[1].split() if found else []
+        dump = subprocess.run(["bmake", "dump-vars"], cwd=f"{top}/tree/{port}", capture_output=True, text=True, check=True, timeout=LIMIT).stdout
+        for path, variable, value in re.findall(r"^(\S+)\.([A-Z_]+)=(.*)$", dump, re.MULTILINE):
+            if variable == "FULLPKGNAME":
+                names[path] = value
+            elif variable in ("LIB_DEPENDS", "RUN_DEPENDS"):
+                run.setdefault(path, set()).update(value.split())
+    return order, {"names": names, "run": run, "needs": needs}
+
+
+def standing_on(port, order, listed):
+    """The ports that see a package of this one when they are built, and those that see theirs."""
+    changed = {port}
+    for other in order[order.index(port) + 1:]:
+        seen, left = set(), list(listed["needs"][other])
+        while left:
+            path = left.pop()
+            if path not in seen:
+                seen.add(path)
+                siblings = [it for it in listed["run"] if it.partition(",")[0] == path.partition(",")[0]]
+                left += [it for sibling in siblings for it in listed["run"][sibling]]
+        if any(path.partition(",")[0] in changed for path in seen):
+            changed.add(other)
+    return sorted(changed)
+
+
+def makefiles(tally):
+    """A second bulk of a tree of Makefiles, with one port changed, builds that port and what stands on it, and nothing else."""
+    if not shutil.which("bmake"):
+        tally.skip("build-jobs, a second bulk of a tree of Makefiles", "there is no bmake here")
+        return
+    with node_alone() as place:
+        top = place.folder
+        order, listed = tree_of_makefiles(top)
+        begun = Makefiles(top, 1, order, listed).run()
+        add(tally, "a first bulk of Makefiles", [it.partition(",")[0] for it in begun] == sorted(order), begun)
+        # a port on which some stand, and not all
+        port = next(it for it in order[1:] if 2 <= len(standing_on(it, order, listed)) <= 9)
+        with open(f"{top}/tree/{port}/Makefile", "a", encoding="ascii") as file:
+            file.write("# changed\n")
+        bulk = Makefiles(top, 2, order, listed)
+        begun = [it.partition(",")[0] for it in bulk.run()]
+        wanted = standing_on(port, order, listed)
+        add(tally, f"a second bulk of Makefiles, {port} changed", begun == wanted, begun, wanted, bulk.driver.lines()[-4:])
+
+
 def wrong_words(tally):
     """Words that need each other."""
     with node_alone() as node:
@@ -133,5 +214,5 @@ def wrong_words(tally):
 
 
 def run(tally):
-    for one in (bulks, same_names, spoiled, wrong_words):
+    for one in (bulks, makefiles, same_names, spoiled, wrong_words):
         one(tally)

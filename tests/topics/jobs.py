@@ -433,6 +433,20 @@ def words(tally):
             add(tally, f"the words {' '.join(wrong)}", said[2] == 2 and os.listdir(folder) == [], said)
 
 
+def installed(tally):
+    """The tools find their modules where they are installed, also through a link."""
+    with tempfile.TemporaryDirectory() as folder:
+        os.makedirs(f"{folder}/bin")
+        for name in ("build-jobs", "make-builds", "unpack-log"):
+            shutil.copy(f"{TOP}/tools/{name}", f"{folder}/bin/{name}")
+        shutil.copytree(f"{TOP}/tools/dpbn_tools", f"{folder}/share/dpbn/dpbn_tools", ignore=shutil.ignore_patterns("__pycache__"))
+        os.symlink("bin", f"{folder}/link")
+        for name in ("build-jobs", "make-builds", "unpack-log"):
+            done = subprocess.run([f"{folder}/link/{name}", "--help"], cwd="/", capture_output=True, text=True, timeout=LIMIT)
+            right = done.returncode == 0 and done.stdout.startswith(f"usage: {name} ")
+            tally.add(f"{name}, installed", "" if right else f"{done.stdout:.300} {done.stderr:.300}")
+
+
 def unit_tests(tally):
     """The parts of the tools one by one, and their types and style, as far as the programs for that are here."""
     python = "3.8"
@@ -447,7 +461,7 @@ def unit_tests(tally):
 
 
 def first(tally):
-    for one in (words, chain, side_by_side, failures, what_is_no_job, where_it_stands, drivers_that_end):
+    for one in (installed, words, chain, side_by_side, failures, what_is_no_job, where_it_stands, drivers_that_end):
         one(tally)
 
 

@@ -12,6 +12,7 @@ import tempfile
 import time
 from typing import Dict, Iterator, List, Optional
 
+from topics import played
 from topics.tally import TESTS, TOP, contents
 
 LIMIT = 120
@@ -341,6 +342,55 @@ def one_at_a_time(tally) -> None:
         tally.add("build-over-ssh, one build at a time at a place", f"status {status}; {place.log()[-400:]}" if status else built(place))
 
 
+def driven(tally) -> None:
+    """build-jobs with this command: packages go there once, a host that is away marks nothing, and nothing goes on there after a job is
+    taken away or the driver is killed."""
+    with laid() as place:
+        script = f"exec {TOP}/tools/build-over-ssh --ssh {TESTS}/played-ssh --again 1 --wait 0 ob1:2 ob2:2 -- build-port"
+        with played.laid(script, "-j", "4", env={"PLAYED_HOSTS": place.hosts}) as (node, driver):
+            first = node.take(node.post("a/b"), LIMIT)
+            second = node.take(node.post("c/d", built=["a/b"]), LIMIT)
+            there = os.listdir(f"{place.hosts}/ob1/build-over-ssh/cache")
+            right = set(first.get("a/b", {})) == {"saw", "all"} and b"./a:b/saw\n" in second.get("c/d", {}).get("saw", b"") and len(there) == 1
+            tally.add("build-over-ssh with build-jobs", "" if right else f"{first} {sorted(second.get('c/d', {}))} {there} {driver.lines()}")
+            place.file("down", "")
+            name = node.post("e/f", built=["a/b"])
+            is_tried = until(lambda: any("e/f" in line for line in driver.lines()[4:]))
+            time.sleep(3)
+            marks = os.listdir(f"{node.work}/failed")
+            tally.add("build-over-ssh with build-jobs, a host that is away", "" if is_tried and not marks else f"{marks} {driver.lines()}")
+            os.unlink(f"{node.work}/jobs/{name}")
+            os.unlink(f"{place.hosts}/down")
+        for how in ("a job that is taken away", "a killed driver"):
+            for host in ("ob1", "ob2"):
+                place.file(f"{host}/wait", "600")
+                with contextlib.suppress(FileNotFoundError):
+                    os.remove(f"{place.hosts}/{host}/pids")
+            with played.laid(script, "-j", "4", env={"PLAYED_HOSTS": place.hosts}) as (node, driver):
+                name = node.post("g/h")
+                began = until(lambda: os.path.exists(f"{place.hosts}/ob1/pids") and contents(f"{place.hosts}/ob1/pids").count(b"\n") == 2)
+                if how == "a killed driver":
+                    driver.process.kill()
+                    driver.process.wait(LIMIT)
+                else:
+                    os.unlink(f"{node.work}/jobs/{name}")
+                quiet = until(lambda: not alive(f"{place.hosts}/ob1/pids"), MOST + MORE)
+                marks = os.listdir(f"{node.work}/failed")
+                tally.add(f"build-over-ssh with build-jobs, {how}", "" if began and quiet and not marks else f"{began} {quiet} {marks} {driver.lines()}")
+            with contextlib.suppress(FileNotFoundError):
+                os.rmdir(f"{place.hosts}/ob1/at.0")
+
+
+def alive(pids: str) -> List[int]:
+    """The processes of a file that run."""
+    found = []
+    for number in map(int, contents(pids).split()):
+        stat = subprocess.run(["ps", "-o", "stat=", "-p", str(number)], capture_output=True, check=False).stdout.strip()
+        if stat and not stat.startswith(b"Z"):
+            found.append(number)
+    return found
+
+
 # ---- A real sshd
 
 def free_port() -> int:
@@ -397,7 +447,7 @@ def real(tally) -> None:
 
 
 def run(tally) -> None:
-    parts = [(a_build,), (statuses,), (refused,), (away,), (free_places,), (one_at_a_time,), (real,)]
+    parts = [(driven,), (a_build,), (statuses,), (refused,), (away,), (free_places,), (one_at_a_time,), (real,)]
     parts += [(cancelled, how, is_deaf) for how in ("cancelled", "a timeout", "killed with its group", "killed alone") for is_deaf in (False, True)]
     parts += [(cancelled, how, False) for how in ("a killed driver", "a killed driver, outlived", "a killed ssh")]
     parts += [(broken_line, step, count, how) for step, count in (("begin", 0), ("begin", 100), ("take", 1000), ("run", 300), ("run", 580), ("out", 0), ("out", 1000))

@@ -12,7 +12,7 @@ from typing import Dict, List, Optional, Tuple
 
 import letters
 from made_tree import Tree
-from topics.tally import PROGRAM, TESTS, TOP, answer, text_difference
+from topics.tally import PROGRAM, TESTS, TOP, answer, contents, text_difference
 
 LIMIT = 600
 # the made tree of tests/run, as a share of OpenBSD's
@@ -268,6 +268,24 @@ def too_large(tally) -> None:
         tally.add("make-listing of them without one", "" if status == 0 and out.count(".FULLPKGNAME=") == 16_384 and len(ports.calls()) == 1 else f"{said!r:.300}, status {status}")
 
 
+def real_make(tally) -> None:
+    """A small tree of Makefiles by bmake(1): folders of ports, flavors, a default one and none, pseudo-flavors, subpackages, errors."""
+    if not shutil.which("bmake"):
+        print("tests/run: no bmake here: make-listing is tried with a make that is played alone", flush=True)
+        return
+    wanted = contents(f"{TESTS}/ports.listing").decode()
+    for words in ((".",), (".", "--only", "net/needs")):
+        done = subprocess.run([f"{TOP}/tools/make-listing", *words], cwd=f"{TESTS}/ports", stdin=subprocess.DEVNULL, capture_output=True, timeout=LIMIT,
+                              env={**os.environ, "MAKE": "bmake"}, check=False)
+        # where make stands, and how it says that, are its own
+        got = re.sub(r'error: .* "Fatal', 'error: MESSAGE "Fatal', done.stdout.decode())
+        if "--only" in words:
+            got = "".join(sorted(line for line in got.splitlines(True) if "IGNORE" not in line))
+            wanted = "".join(sorted(line for line in wanted.splitlines(True)
+                                    if "IGNORE" not in line and not line.startswith(("net/bad", "net/wild", "net/fails", "devel/gmake,nope", "devel/none"))))
+        tally.add(f"make-listing {' '.join(words)} by bmake", text_difference(got.encode(), wanted.encode()) if got != wanted or done.returncode else "")
+
+
 def needs_of(listing: str) -> Dict[str, Dict[str, set]]:
     """What the listing says that each path needs, by kind, and of an ignored one that it is."""
     found: Dict[str, Dict[str, set]] = {}
@@ -338,4 +356,5 @@ def run(tally) -> None:
     refused(tally)
     ended(tally)
     too_large(tally)
+    real_make(tally)
     tally.run("a made tree", whole_tree)

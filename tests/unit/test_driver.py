@@ -133,7 +133,7 @@ def test_a_folder_that_cannot_be_laid_out_leaves_nothing(tmp_path, monkeypatch):
             for _ in range(3):
                 build = Build(job(), 0)
                 with pytest.raises(OSError):
-                    own.layout.lay(build)
+                    own.steps.lay(build)
     assert os.listdir(f"{tmp_path}/work/build") == [] and os.listdir(f"{tmp_path}/work/begun") == []
 
 
@@ -320,7 +320,7 @@ def test_a_disk_that_stays_full_is_away(health):
 SUPERVISOR = os.path.join(os.path.dirname(builds.__file__), "supervisor.py")
 
 
-@pytest.mark.parametrize("without", ["", "import os; del os.waitid; "])
+@pytest.mark.parametrize("without", ["", "import os; vars(os).pop('waitid', None); "])
 def test_what_a_command_leaves_is_killed(tmp_path, without):
     """With waitid and without it, as on systems that haven't got it."""
     code = f"{without}import runpy, sys; sys.argv = sys.argv[1:]; runpy.run_path({SUPERVISOR!r}, run_name='__main__')"
@@ -393,7 +393,7 @@ def test_names_that_come_at_once_are_seen(tmp_path):
 def test_a_full_disk_is_asked_again_though_no_job_is_there(tmp_path, monkeypatch):
     own = driver(tmp_path, "--free", "1000")
     free = [10]
-    monkeypatch.setattr(own.layout, "free_bytes", lambda: free[0])
+    monkeypatch.setattr(own.steps, "free_bytes", lambda: free[0])
     own.least = 1000
     own.health.set_short(own.lacking_disk(1000))
     own.health.short_since -= 100

@@ -38,6 +38,10 @@ class Path:
         self.lines: List[bytes] = []
         self.values: Dict[bytes, bytes] = {}
 
+    def needs(self) -> Dict[bytes, List[bytes]]:
+        """The paths that it needs, by variable."""
+        return {name: list(paths_in(value)) for name, value in self.values.items() if name.endswith(b"_DEPENDS")}
+
 
 class Listing:
     """The paths of a listing, in its order, and their groups."""
@@ -50,7 +54,7 @@ class Listing:
                 self.read_line(number, line)
         for path in self.paths:
             self.groups.setdefault(path if single else group_of(path), []).append(path)
-        self.needs = {path: {name: list(paths_in(value)) for name, value in it.values.items() if name.endswith(b"_DEPENDS")} for path, it in self.paths.items()}
+        self.needs = {path: it.needs() for path, it in self.paths.items()}
         self.ignored = self.find_ignored()
 
     def read_line(self, number: int, line: bytes) -> None:

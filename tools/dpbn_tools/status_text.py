@@ -144,9 +144,9 @@ def hosts(status: Object) -> List[str]:
         seen = seconds_of(one["seen"])
         counts = [str(one["counts"][letter]) for letter in "IBQT"] if one["counts"] else ["-"] * 4
         rows.append([one["name"], one["state"], *(str(one[it]) for it in ("builds", "queued", "built", "failed")), *counts,
-                     "-" if seen is None else f"{duration(max(0.0, now - seen))} ago"])
-    heads = ("HOST", "DOES", "BUILDS", "QUEUED", "BUILT", "FAILED", "I", "B", "Q", "T", "SEEN")
-    return table("HOSTS", heads, rows, (12, 7, -6, -6, -5, -6, -5, -4, -5, -5, -7)) if rows else []
+                     "never" if seen is None else duration(max(0.0, now - seen))])
+    heads = ("HOST", "DOES", "RUNS", "QUEUE", "BUILT", "FAILED", "I", "B", "Q", "T", "SEEN AGO")
+    return table("HOSTS", heads, rows, (10, 7, -4, -5, -5, -6, -5, -5, -5, -5, -10)) if rows else []
 
 
 def chain(status: Object) -> List[str]:

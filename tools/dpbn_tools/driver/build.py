@@ -181,7 +181,7 @@ class Build:
                 os.close(number)
 
     def poll(self) -> bool:
-        """Whether the command has ended, and its supervisor."""
+        """Whether the command has ended."""
         if self.command:
             if not self.command.poll():
                 return False
@@ -190,6 +190,10 @@ class Build:
             return False
         self.ended = self.ended or self.status()
         return True
+
+    def is_gone(self) -> bool:
+        """Whether its supervisor is gone, too."""
+        return self.command is None or self.command.is_gone()
 
     def status(self) -> Optional[Ended]:
         """How it ended, by its file; None if nobody saw how, or it was ended on request."""

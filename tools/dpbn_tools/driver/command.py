@@ -16,7 +16,7 @@ class Command:
 
     def __init__(self, words: Sequence[str], kind: str, watched: int, grace: float, folder: str, out: File, env: Dict[str, str],
                  cwd: Optional[str] = None, close: Callable[[], None] = lambda: None) -> None:
-        self.began, self.text, self.close_end = time.monotonic(), b"", close
+        self.began, self.text, self.close_end, self.kind = time.monotonic(), b"", close, kind
         self.reads, writes = os.pipe()
         os.set_blocking(self.reads, False)
         call: List[str] = [sys.executable or "python3", "-I", "-S", SUPERVISOR, kind, str(watched), str(writes), str(grace), folder, *words]
@@ -30,6 +30,10 @@ class Command:
             os.close(writes)
 
     def poll(self) -> bool:
+        """Whether the command has ended. Of a build that is known before its supervisor is gone, which still syncs what was made."""
+        return self.is_gone() or self.kind == "build" and bool(self.result())
+
+    def is_gone(self) -> bool:
         """Whether its supervisor is gone; then what it reported is complete."""
         while self.reads >= 0:
             try:

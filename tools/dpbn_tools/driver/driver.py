@@ -16,7 +16,7 @@ from dpbn_tools.driver.fetches import Fetches
 from dpbn_tools.driver.health import Health
 from dpbn_tools.driver.held import Held
 from dpbn_tools.driver.job import NAME, Job, NoJob, text_of_job
-from dpbn_tools.driver.layout import Changed, Layout
+from dpbn_tools.driver.build_steps import Changed, BuildSteps
 from dpbn_tools.driver.limits import WORDS, BadLimits, Limits
 from dpbn_tools.driver.lines import Lines
 from dpbn_tools.driver.names import Listed
@@ -33,7 +33,7 @@ BUSY, LONGEST_BUSY, IDLE = 0.02, 5, 0.05
 # before what the system refused is tried again, in seconds
 PATIENCE = 5
 # how often the files of a job that waits are looked at, and the free disk, in seconds
-FILES_EACH, FREE_EACH = 0.2, 1
+FILES_EACH, POLL_EACH, FREE_EACH = 0.2, 1, 1
 # how long a build that was asked to end may take beyond its grace before that is told, in seconds
 LONGEST_END = 5
 # how long a build of an earlier run is kept that nobody asks for, in seconds
@@ -55,13 +55,13 @@ class Driver:
         self.held = Held(asked.log)
         self.listed = Listed(asked.listing) if asked.listing else None
         self.limits = Limits({word: getattr(asked, word.replace("-", "_")) for word in WORDS}, asked.limits)
-        self.fetches = Fetches(self.store, asked.fetch, self.logs.common("fetch.log"), self.tasks, lines.tell)
+        self.fetches = Fetches(self.store, asked.fetch, lambda: self.logs.common("fetch.log"), self.tasks, lines.tell)
         self.health = Health(self.work, asked.ready, lambda: self.logs.common("ready.log"), lines.tell)
         self.reuse = Reuse(os.path.realpath(asked.reuse), asked.inputs, asked.reuse_by_name) if asked.reuse else None
-        pushes = Pushes(self.store, asked.push, asked.copies, self.logs.common("push.log")) if asked.copies > 1 else None
+        pushes = Pushes(self.store, asked.push, asked.copies, lambda: self.logs.common("push.log")) if asked.copies > 1 else None
         self.pushes = pushes
-        self.layout = Layout(asked, self.work, self.logs, self.store, self.held, self.listed, self.reuse, lines)
-        self.endings = Endings(self.layout, self.tasks, self.limits, self.health, Times(f"{work}/times"), self.reuse, pushes)
+        self.steps = BuildSteps(asked, self.work, self.logs, self.store, self.held, self.listed, self.reuse, lines)
+        self.endings = Endings(self.steps, self.tasks, self.limits, self.health, Times(f"{work}/times"), self.reuse, pushes)
         self.jobs: Dict[str, Posted] = {}
         self.builds: List[Build] = []
         self.odd: Dict[str, float] = {}
@@ -127,7 +127,9 @@ class Driver:
 
     def wait(self) -> None:
         """Waits until something may have happened."""
-        numbers = [self.tasks.reads, *(number for number in self.reports() if number >= 0)]
+        numbers = [self.tasks.reads]
+        if time.monotonic() >= self.due.get("builds", 0.0):
+            numbers += [number for number in self.reports() if number >= 0]
         woken, _, _ = select.select(numbers, [], [], BUSY if time.monotonic() < self.busy_until else IDLE)
         if woken or self.tasks.running:
             self.is_busy()
@@ -196,7 +198,7 @@ class Driver:
 
     def end(self, build: Build, why: str) -> None:
         """Has a build ended that nobody waits for."""
-        build.dropped = build.dropped or why
+        build.dropped, build.due = build.dropped or why, 0.0
         if build.state is State.RUNNING:
             self.ask_end(build)
 
@@ -208,8 +210,10 @@ class Driver:
 
     def look_at_builds(self) -> None:
         for build in list(self.builds):
+            # this reads the end of its pipe, too, for which nobody waits any more once it is over
+            is_gone = build.is_gone()
             self.look_at_build(build)
-            if build.state is State.GONE and not build.is_busy:
+            if build.state is State.GONE and not build.is_busy and is_gone:
                 self.builds.remove(build)
 
     def look_at_build(self, build: Build) -> None:
@@ -240,7 +244,7 @@ class Driver:
                 self.end(build, "there is no job for it")
 
     def check_limits(self, build: Build) -> None:
-        why = self.layout.beyond(build, self.limits)
+        why = self.steps.beyond(build, self.limits)
         if why:
             build.failed = why
             self.ask_end(build)
@@ -291,7 +295,7 @@ class Driver:
         if not least:
             return ""
         if time.monotonic() >= self.free_due:
-            self.free, self.free_due = self.layout.free_bytes(), time.monotonic() + FREE_EACH
+            self.free, self.free_due = self.steps.free_bytes(), time.monotonic() + FREE_EACH
         return f"{self.free} bytes of disk are free, and {least} have to be" if self.free < least else ""
 
     def is_ready(self, posted: Posted, may_begin: bool) -> bool:
@@ -303,9 +307,11 @@ class Driver:
                 self.look_for_earlier(posted)
             return False
         now = time.monotonic()
-        if posted.unsure and now >= posted.files_due:
-            posted.files_due = now + FILES_EACH
+        if posted.unsure and now >= posted.files_due and (posted.version != self.store.version or now >= posted.poll_due):
+            posted.files_due, posted.version = now + FILES_EACH, self.store.version
             self.look_for_files(posted)
+            # others may put files into the store: the more are missing, the longer it takes to look
+            posted.poll_due = now + POLL_EACH + len(posted.unsure) / 1000
         return not posted.unsure
 
     def finds(self, posted: Posted) -> bool:
@@ -320,7 +326,7 @@ class Driver:
             if now >= posted.lacking_since + PATIENCE:
                 self.lines.tell_once(f"? {posted.job} waits: {self.held.path} hasn't all that it is to be built on")
             return False
-        why = self.layout.other_listing(posted.job, needed)
+        why = self.steps.other_listing(posted.job, needed)
         if why:
             posted.due = now + PATIENCE
             self.lines.tell_once(f"? {posted.job} waits: {why}", ("listing", why))
@@ -336,8 +342,9 @@ class Driver:
             if state is FileState.PRESENT:
                 del posted.unsure[digest]
             elif state is FileState.MISSING:
-                self.fetches.want(large, [host for host in self.held.holders(record)
-                                          if host == int(record.host) or str(host) != posted.job.host])
+                if not self.fetches.is_wanted(large):
+                    self.fetches.want(large, [host for host in self.held.holders(record)
+                                              if host == int(record.host) or str(host) != posted.job.host])
                 if self.fetches.is_missed(large):
                     missed.append(large)
         if missed:
@@ -363,7 +370,7 @@ class Driver:
             elif build.folder:
                 self.tasks.start(lambda: remove_folder(build.folder), lambda _, __: None)
 
-        self.tasks.start(lambda: self.layout.look_for_earlier(build, needed), found)
+        self.tasks.start(lambda: self.steps.look_for_earlier(build, needed), found)
 
     def begin(self, posted: Posted) -> None:
         """Begins a build: its folder is laid out beside the loop."""
@@ -389,7 +396,7 @@ class Driver:
             if build.dropped:
                 self.ask_end(build)
 
-        self.tasks.start(lambda: self.layout.lay(build), laid)
+        self.tasks.start(lambda: self.steps.lay(build), laid)
 
     def look_at_rest(self) -> None:
         """What is done once in a while."""

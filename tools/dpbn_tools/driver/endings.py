@@ -9,7 +9,7 @@ from typing import Callable, Dict, List, Optional
 from dpbn_tools.driver.build import Build, State
 from dpbn_tools.driver.handin import Failed, large_in, size_of
 from dpbn_tools.driver.health import TEMPFAIL, Health
-from dpbn_tools.driver.layout import Layout
+from dpbn_tools.driver.build_steps import BuildSteps
 from dpbn_tools.driver.limits import Limits
 from dpbn_tools.driver.pushes import Pushes
 from dpbn_tools.driver.reuse import Reuse
@@ -26,11 +26,11 @@ ENDS = "this driver ends"
 class Endings:
     """The steps from a command's end to the end of its folder. Each that takes long is done beside the loop, one at a time for a build."""
 
-    def __init__(self, layout: Layout, tasks: Tasks, limits: Limits, health: Health, times: Times, reuse: Optional[Reuse],
+    def __init__(self, steps: BuildSteps, tasks: Tasks, limits: Limits, health: Health, times: Times, reuse: Optional[Reuse],
                  pushes: Optional[Pushes]) -> None:
-        self.layout, self.tasks, self.limits, self.health = layout, tasks, limits, health
+        self.steps, self.tasks, self.limits, self.health = steps, tasks, limits, health
         self.times, self.reuse, self.pushes = times, reuse, pushes
-        self.lines = layout.lines
+        self.lines = steps.lines
         self.counts: Dict[str, int] = {"built": 0, "failed": 0, "dropped": 0, "given back": 0, "taken from earlier runs": 0}
 
     def counted(self) -> str:
@@ -93,12 +93,12 @@ class Endings:
             self.mark(build)
         elif build.needed is None:
             # one of an earlier run: what it was built on is held by the node, whose log is read in a moment
-            build.needed = self.layout.held.needed(build.job.built)
+            build.needed = self.steps.held.needed(build.job.built)
             build.due = time.monotonic() + (0 if build.needed is not None else 0.3)
         elif build.text is None:
-            self.step(build, lambda: self.layout.examine(build, self.limits), lambda: None)
+            self.step(build, lambda: self.steps.examine(build, self.limits), lambda: None)
         elif self.is_pushed(build):
-            self.step(build, lambda: self.layout.hand_in(build), lambda: self.handed_in(build))
+            self.step(build, lambda: self.steps.hand_in(build), lambda: self.handed_in(build))
         else:
             build.due = time.monotonic() + 0.1
 
@@ -123,7 +123,7 @@ class Endings:
         """Whether as many stores have its large files as shall be."""
         if not self.pushes:
             return True
-        members = self.layout.held.members()
+        members = self.steps.held.members()
         is_done = True
         for large in large_in(build.made or {}).values():
             is_done = self.pushes.push(large, int(build.job.host), members) and is_done
@@ -151,7 +151,7 @@ class Endings:
             return
         self.times.add(build.job, build.seconds(), size_of(build.made))
         if self.reuse and build.key:
-            self.reuse.keep(build.key, build.made, self.layout.store)
+            self.reuse.keep(build.key, build.made, self.steps.store)
 
     def mark(self, build: Build) -> None:
         where: List[str] = []
@@ -162,7 +162,7 @@ class Endings:
             self.lines.tell(f"! {build.job} failed after {build.seconds():.0f} s: {build.failed}, see {where[-1]}")
             self.leave(build)
 
-        self.step(build, lambda: where.append(self.layout.mark(build, self.limits)), marked)
+        self.step(build, lambda: where.append(self.steps.mark(build, self.limits)), marked)
 
     def leave(self, build: Build, first: Callable[[Build], None] = lambda _: None) -> None:
         """Removes the build's folder, beside the loop."""
@@ -177,6 +177,6 @@ class Endings:
             try:
                 first(build)
             finally:
-                self.layout.remove(build)
+                self.steps.remove(build)
 
         self.tasks.start(work, gone)

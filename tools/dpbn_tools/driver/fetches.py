@@ -42,7 +42,7 @@ class Wanted:
 class Fetches:
     """The files that are wanted, and the commands that get them."""
 
-    def __init__(self, store: Store, command: Optional[str], log: str, tasks: Tasks, tell: Callable[[str], None]) -> None:
+    def __init__(self, store: Store, command: Optional[str], log: Callable[[], str], tasks: Tasks, tell: Callable[[str], None]) -> None:
         self.store, self.command, self.log, self.tasks, self.tell = store, command, log, tasks, tell
         self.wanted: Dict[str, Wanted] = {}
         self.hosts = Hosts()
@@ -53,6 +53,9 @@ class Fetches:
         if self.command and large.digest not in self.wanted:
             self.wanted[large.digest] = Wanted(large, hosts)
             self.due = 0.0
+
+    def is_wanted(self, large: Large) -> bool:
+        return large.digest in self.wanted
 
     def is_missed(self, large: Large) -> bool:
         """Whether nobody gets the file, or it was tried in vain."""
@@ -109,7 +112,7 @@ class Fetches:
         os.makedirs(self.store.folder, exist_ok=True)
         more = {"HOST": str(host), "SHA256": large.digest, "SIZE": str(large.size), "NAME": large.name.decode(), "TARGET": target}
         assert self.command
-        return helper(shell(self.command), self.log, {**os.environ, **more})
+        return helper(shell(self.command), self.log(), {**os.environ, **more})
 
     def begin_check(self, wanted: Wanted, fetch: Fetch) -> None:
         self.tasks.start(lambda: self.check(fetch), lambda is_right, error: self.checked(wanted, fetch, bool(is_right), error))

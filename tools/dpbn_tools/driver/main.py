@@ -71,8 +71,6 @@ def main() -> None:
     asked, signals = asked_for(), Signals()
     out = Lines(descriptor())
     try:
-        if asked.limits is not None:
-            os.stat(asked.limits)
         command = os.path.abspath(asked.command[0]) if "/" in asked.command[0] else asked.command[0]
         driver = Driver(asked, out)
         if not shutil.which(command):

@@ -27,6 +27,8 @@ class Posted:
         self.unsure: Dict[str, Tuple[Large, Record]] = {}
         # when it is looked at again after the system refused something, and when its files are
         self.due, self.files_due = 0.0, 0.0
+        # what the store's version was then, and when its files are looked at though that is the same
+        self.version, self.poll_due = -1, 0.0
         self.lacking_since: Optional[float] = None
         self.earlier, self.key = Earlier.UNKNOWN, ""
 
@@ -37,4 +39,4 @@ class Posted:
     def is_unsure(self) -> None:
         """All of its files have to be looked at."""
         self.unsure = {large.digest: (large, record) for record in self.needed or [] for large in record.large}
-        self.files_due = 0.0
+        self.files_due, self.version = 0.0, -1

@@ -2,7 +2,7 @@
 from __future__ import annotations
 
 import os
-from typing import Dict, List, Set, Tuple
+from typing import Callable, Dict, List, Set, Tuple
 
 from dpbn_tools.log import Large
 from dpbn_tools.driver.command import Command, helper, shell
@@ -13,7 +13,7 @@ from dpbn_tools.driver.transfers import Hosts
 class Pushes:
     """Which files are to be where, and the commands that bring them there."""
 
-    def __init__(self, store: Store, command: str, copies: int, log: str) -> None:
+    def __init__(self, store: Store, command: str, copies: int, log: Callable[[], str]) -> None:
         self.store, self.command, self.copies, self.log = store, command, copies, log
         self.hosts = Hosts()
         # which other hosts have a file, as far as this one pushed it
@@ -51,7 +51,7 @@ class Pushes:
     def begin(self, large: Large, host: int) -> None:
         more = {"HOST": str(host), "SHA256": large.digest, "SIZE": str(large.size), "NAME": large.name.decode(),
                 "SOURCE": self.store.path(large.digest)}
-        self.running.append((large, host, helper(shell(self.command), self.log, {**os.environ, **more})))
+        self.running.append((large, host, helper(shell(self.command), self.log(), {**os.environ, **more})))
         self.hosts.begins(host)
 
     def forget(self, large: Large) -> None:

@@ -65,6 +65,8 @@ class Store:
         self.checks: List[Large] = []
         self.checking = 0
         self.is_copy_told = False
+        # changes whenever more is known of a file
+        self.version = 0
 
     def path(self, digest: str) -> str:
         return f"{self.folder}/{digest}"
@@ -128,6 +130,7 @@ class Store:
 
     def checked(self, large: Large, touched: Optional[Touched], error: Optional[Exception]) -> None:
         self.checking -= 1
+        self.version += 1
         self.states.pop(large.digest, None)
         if touched:
             self.seen[large.digest] = touched
@@ -185,6 +188,7 @@ class Store:
         it = os.stat(self.path(digest))
         self.seen[digest] = it.st_size, it.st_mtime_ns, it.st_ino
         self.states.pop(digest, None)
+        self.version += 1
 
     # ---- what is taken
 

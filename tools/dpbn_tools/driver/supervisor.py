@@ -12,8 +12,9 @@ How it ended is written into FOLDER/status, which the driver made as long as it 
 
 A helper ends with its driver: LIFE is the end of a pipe that the driver holds.
 
-To end a group, it gets SIGTERM, and SIGKILL if there is anything left of it GRACE seconds later. REPORT gets a line `group N` at the start,
-and at the end the line of the status; nothing if the command was ended on request. It imports little, since it is started often."""
+To end a group, it gets SIGTERM, and SIGKILL if there is anything left of it GRACE seconds later. REPORT gets a line `group N` at the
+start, and a line like that of the status when the command has ended, before anything is synced; nothing if it was ended on request.
+It imports little, since it is started often."""
 from __future__ import annotations
 
 import errno
@@ -197,6 +198,8 @@ class Supervisor:
     def finish(self, how: str) -> None:
         took = time.monotonic() - self.began
         if self.kind == "build":
+            # the driver goes on with what was made, while it is brought to the disk for one that comes after a stop
+            self.tell(f"{how} {took:.1f} unsynced\n")
             kept = how != "exit 0" or sync_below(f"{self.folder}/out")
             how = f"{how} {took:.1f} {'synced' if kept else 'unsynced'}"
             try:
@@ -207,7 +210,8 @@ class Supervisor:
             except OSError as error:
                 if error.errno != errno.ENOENT:
                     print(f"supervisor: {self.folder}/status: {error}", file=sys.stderr)
-        self.tell(f"{how}\n")
+        else:
+            self.tell(f"{how}\n")
 
 
 def main() -> None:

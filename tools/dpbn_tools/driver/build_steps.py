@@ -29,7 +29,7 @@ class Changed(Exception):
     """A file of the store isn't as it was when it was hashed."""
 
 
-class Layout:
+class BuildSteps:
     """The words and folders that all builds share."""
 
     def __init__(self, asked: argparse.Namespace, work: WorkFolder, logs: BuildLogs, store: Store, held: Held, listed: Listed | None,
@@ -148,6 +148,8 @@ class Layout:
         """Looks at what the build made, and keeps its large files. Failed says why it isn't handed in. What the system refuses is
         raised, and may be tried again."""
         if build.made is None:
+            if not self.listed and os.path.exists(f"{build.file('out')}/{handin.NAMES}"):
+                self.lines.tell_once("~ the names in OUT/NAMES are compared with nothing: there is no --listing", "names")
             handin.check_names(build, self.names_of(build.job))
             if not build.is_reused:
                 handin.check_seen(build, build.needed or [])
