@@ -2,66 +2,20 @@
 from __future__ import annotations
 
 import contextlib
-import hashlib
-import json
 import os
 import shutil
 import subprocess
 import sys
-import tarfile
-import threading
-from typing import Any, BinaryIO, Callable, Dict, IO, List, Optional, Set, Tuple, cast
+from typing import BinaryIO, Callable, Dict, List, Set, Tuple
 
-from dpbn_tools.host_store import DIGEST
 from dpbn_tools.hosts_file import Host, HostsFile
-from dpbn_tools.hosts_remote import NoAnswer, ask, json_of, why_not, words_for
+from dpbn_tools.hosts_receive import files_below, put_touched, receive
+from dpbn_tools.hosts_remote import NoAnswer, ask, json_of
 from dpbn_tools.hosts_start import on_all
+from dpbn_tools.hosts_stores import Store, bring_large
 from dpbn_tools.log import HELD, BadLog, LogFile
 from dpbn_tools.log_copies import Copy
-from dpbn_tools.whole_files import new_name, sync
 
-# what is done with each file of an archive: its name, its bytes, its size, and when it was touched, in nanoseconds
-Take = Callable[[str, BinaryIO, int, int], None]
-MAX_ERRORS = 65_536
-
-
-def receive(file: HostsFile, host: Host, asked: Dict[str, Any], take: Take) -> None:
-    """Has a host send what is asked for, and takes each file that comes."""
-    command = words_for(file, host, ["send", host.folder])
-    with subprocess.Popen(command, stdin=subprocess.PIPE, stdout=subprocess.PIPE, stderr=subprocess.PIPE) as process:
-        errors: List[bytes] = []
-        reader = threading.Thread(target=lambda: errors.append(cast(IO[bytes], process.stderr).read()[-MAX_ERRORS:]), daemon=True)
-        reader.start()
-        broken: Optional[Exception] = None
-        try:
-            give(cast(IO[bytes], process.stdin), json.dumps(asked).encode())
-            with tarfile.open(fileobj=process.stdout, mode="r|", bufsize=1 << 20) as tar:
-                for member in tar:
-                    data = tar.extractfile(member)
-                    if member.isreg() and data:
-                        take(member.name, cast(BinaryIO, data), member.size, int(member.pax_headers.get("touched", "0")))
-        except (tarfile.TarError, EOFError, BadLog, NoAnswer) as error:
-            broken = error
-        except BaseException:
-            process.kill()
-            raise
-        cast(IO[bytes], process.stdout).close()
-        status = process.wait()
-        reader.join()
-    if status > 0:
-        raise NoAnswer(why_not(status, b"".join(errors)))
-    if broken:
-        raise NoAnswer(f"what came broke off: {broken}")
-
-
-def give(stream: IO[bytes], data: bytes) -> None:
-    with contextlib.suppress(BrokenPipeError):
-        stream.write(data)
-    with contextlib.suppress(BrokenPipeError):
-        stream.close()
-
-
-# ---- logs
 
 def log_path(folder: str, host: Host) -> str:
     return f"{folder}/logs/node-{host.number}.log"
@@ -92,98 +46,6 @@ def held_in(path: str) -> Tuple[Set[bytes], Dict[str, int]]:
                 units.add(note.unit)
                 large.update((it.digest, it.size) for record in note.records for it in record.large)
     return units, large
-
-
-# ---- large files
-
-class Store:
-    """The large files on this host, each under its SHA-256."""
-
-    def __init__(self, path: str) -> None:
-        self.path = path
-        os.makedirs(path, exist_ok=True)
-
-    def missing(self, wanted: Dict[str, int]) -> List[str]:
-        return sorted(digest for digest, size in wanted.items() if not self.has(digest, size))
-
-    def has(self, digest: str, size: int) -> bool:
-        try:
-            return os.path.getsize(f"{self.path}/{digest}") == size
-        except FileNotFoundError:
-            return False
-
-    def take(self, name: str, data: BinaryIO, _size: int, _touched: int) -> None:
-        """Takes a file if it has the digest of its name; another one is passed over, and asked for at another host."""
-        if not DIGEST.fullmatch(name):
-            raise NoAnswer(f"it sends {name!a} in place of a large file")
-        path = f"{self.path}/{name}"
-        new, digest = new_name(path), hashlib.sha256()
-        try:
-            with open(new, "xb") as file:
-                for part in iter(lambda: data.read(1 << 20), b""):
-                    digest.update(part)
-                    file.write(part)
-                file.flush()
-                os.fsync(file.fileno())
-            if digest.hexdigest() == name:
-                os.chmod(new, 0o444)
-                os.rename(new, path)
-        finally:
-            if os.path.lexists(new):
-                os.unlink(new)
-
-
-class Holders:
-    """Which hosts have which large files, and how much was asked of each."""
-
-    def __init__(self, stores: Dict[str, Dict[str, int]]) -> None:
-        self.stores, self.load = stores, dict.fromkeys(stores, 0)
-
-    def shares(self, digests: List[str], sizes: Dict[str, int]) -> Dict[str, List[str]]:
-        """Which files each host is asked for: one that has the file, and that is asked for least so far. It isn't asked a second time."""
-        shares: Dict[str, List[str]] = {}
-        for digest in digests:
-            names = [name for name, store in self.stores.items() if store.get(digest) == sizes[digest]]
-            if names:
-                name = min(names, key=lambda it: self.load[it])
-                self.load[name] += sizes[digest]
-                del self.stores[name][digest]
-                shares.setdefault(name, []).append(digest)
-        return shares
-
-
-def bring_large(file: HostsFile, store: Store, wanted: Dict[str, int], stores: Dict[str, Dict[str, int]]) -> List[str]:
-    """Brings the large files from whoever has them. Returns lines on what went wrong."""
-    lines: List[str] = []
-    holders = Holders(stores)
-
-    def bring(share: Tuple[str, List[str]]) -> None:
-        name, digests = share
-        host = file.named(name)
-        assert host
-        try:
-            receive(file, host, {"store": digests}, store.take)
-        except (NoAnswer, OSError) as error:
-            lines.append(f"{name}: {error}")
-
-    while True:
-        shares = holders.shares(store.missing(wanted), wanted)
-        if not shares:
-            break
-        run_all(list(shares.items()), bring)
-    sync(store.path)
-    missing = store.missing(wanted)
-    if missing:
-        lines.append(f"{len(missing)} large files are on no host that answered, the first: {missing[0]}")
-    return lines
-
-
-def run_all(items: List[Any], call: Callable[[Any], None]) -> None:
-    threads = [threading.Thread(target=call, args=(item,)) for item in items]
-    for thread in threads:
-        thread.start()
-    for thread in threads:
-        thread.join()
 
 
 # ---- all of it
@@ -323,30 +185,3 @@ def bring_build_logs(collection: Collection) -> None:
 
     for line in filter(None, on_all(collection.file.hosts, bring)):
         collection.tell(line)
-
-
-def files_below(folder: str) -> Dict[str, int]:
-    """The files below a folder by name, and when each was touched, in nanoseconds."""
-    found: Dict[str, int] = {}
-    for place, _, names in os.walk(folder):
-        for name in names:
-            path = os.path.join(place, name)
-            found[os.path.relpath(path, folder)] = os.stat(path).st_mtime_ns
-    return found
-
-
-def put_touched(folder: str, name: str, data: BinaryIO, _size: int, touched: int) -> None:
-    """Writes a file that comes into place whole, with the time at which it was touched at its host."""
-    if any(part in ("", ".", "..") for part in name.split("/")):
-        raise NoAnswer(f"it sends a file of the name {name!a}")
-    path = f"{folder}/{name}"
-    os.makedirs(os.path.dirname(path), exist_ok=True)
-    new = new_name(path)
-    try:
-        with open(new, "xb") as file:
-            shutil.copyfileobj(data, file)
-        os.utime(new, ns=(touched, touched))
-        os.rename(new, path)
-    finally:
-        if os.path.lexists(new):
-            os.unlink(new)

@@ -9,8 +9,9 @@ import sys
 import time
 from typing import BinaryIO, List
 
-from dpbn_tools.hosts_collect import beside, bring_log, files_below, log_path, put_touched, receive
+from dpbn_tools.hosts_collect import beside, bring_log, log_path
 from dpbn_tools.hosts_file import Host, HostsFile
+from dpbn_tools.hosts_receive import files_below, put_touched, receive
 from dpbn_tools.hosts_remote import NoAnswer
 from dpbn_tools.hosts_start import on_all
 
