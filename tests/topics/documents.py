@@ -7,6 +7,7 @@ import shutil
 import subprocess
 import sys
 
+from topics import tried_edits
 from topics.tally import TESTS, TOP, contents
 
 sys.path.insert(0, f"{TOP}/tools")
@@ -353,6 +354,7 @@ def run(tally):
     one_order(tally)
     cost_of_the_gate(tally)
     tried_wrong_bodies(tally)
+    tally.run("what was tried of wrong bodies", tried_edits.run)
     rows_of_crates(tally)
     files_of_crates(tally)
     promises(tally)
