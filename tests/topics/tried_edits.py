@@ -26,16 +26,17 @@ def try_wrong_bodies():
     return script
 
 
-def lines_of_gate(crate, words="refused, as it must be: a clause"):
+def lines_of_gate(crate, words="refused, as it must be: a clause", form="{crate}/{edit}"):
     """What the gate says of each edit of a crate."""
-    return [f"rt: must-fail {crate}/{it[:-len('.edit')]}: {words}\n" for it in tried.edits_in(f"{tried.WRONG_BODIES}/{crate}")]
+    edits = tried.edits_in(f"{tried.WRONG_BODIES}/{crate}")
+    return [f"rt: must-fail {form.format(crate=crate, edit=it[:-len('.edit')])}: {words}\n" for it in edits]
 
 
 def noted(script, lines):
     """The crates of which it is written down that their edits were tried, once the gate has said these lines."""
     book = script.Book([BELOW, ABOVE])
     for line in lines:
-        found = script.judged(line, book.digests)
+        found = script.judged(line, book.edits)
         if found:
             book.take(*found)
     return sorted(tried.read())
@@ -54,7 +55,8 @@ def run(tally):
                     ("all are refused", [*below, *above], [ABOVE, BELOW]),
                     ("some weren't tried", lines_of_gate(ABOVE, "NOT TRIED: its check was killed"), [ABOVE, BELOW]),
                     ("one isn't refused", [*lines_of_gate(ABOVE, "NOT REFUSED")[:1], *above[1:]], [BELOW]),
-                    ("one can't be applied", lines_of_gate(BELOW, "BAD EDIT")[:1], [])):
+                    ("one can't be applied", lines_of_gate(BELOW, "BAD EDIT")[:1], []),
+                    ("they are named as files", lines_of_gate(ABOVE, form="crates/{crate}/must-fail/{edit}.edit"), [ABOVE])):
                 got = noted(script, lines)
                 tally.add(f"tests/try-wrong-bodies, {name}", "" if got == sorted(wanted) else f"{got} are written down, not {sorted(wanted)}")
             noted(script, below)
