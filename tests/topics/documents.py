@@ -8,6 +8,7 @@ import subprocess
 import sys
 from typing import Dict, Iterable, Iterator, List, Optional, Sequence, Set, Tuple
 
+from topics import tried_edits
 from topics.tally import TESTS, TOP, Tally, contents
 
 sys.path.insert(0, f"{TOP}/tools")
@@ -380,6 +381,7 @@ def run(tally: Tally) -> None:
     one_order(tally)
     cost_of_the_gate(tally)
     tried_wrong_bodies(tally)
+    tally.run("what was tried of wrong bodies", tried_edits.run)
     rows_of_crates(tally)
     files_of_crates(tally)
     promises(tally)
