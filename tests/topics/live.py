@@ -2,7 +2,6 @@
 ports that fail and are mended, a host that comes late, answers that are none, how much is sent where nothing happens, and a long
 run."""
 import contextlib
-import fcntl
 import functools
 import hashlib
 import json
@@ -94,12 +93,12 @@ class Host:
                 process.wait()
 
     def end(self):
-        """Ends both, and waits for builds that outlived a driver: their folders are locked as long as they run."""
+        """Ends both, and waits for builds that outlived a driver: somebody reads their FIFOs as long as they run."""
         for process in (self.driver, self.node):
             if process and process.poll() is None:
                 process.terminate()
                 process.wait(LIMIT)
-        until(lambda: not any(is_locked(f"{self.work}/build/{name}/lock") for name in names_in(f"{self.work}/build")))
+        until(lambda: not any(is_read(f"{self.work}/build/{name}/control") for name in names_in(f"{self.work}/build")))
 
     def lines(self):
         """What the node told on standard error since it was started."""
@@ -119,15 +118,13 @@ def names_in(folder):
     return sorted(os.listdir(folder)) if os.path.isdir(folder) else []
 
 
-def is_locked(path):
+def is_read(path):
+    """Whether somebody reads the FIFO."""
     try:
-        with open(path) as lock:
-            fcntl.flock(lock, fcntl.LOCK_EX | fcntl.LOCK_NB)
-    except BlockingIOError:
-        return True
+        os.close(os.open(path, os.O_WRONLY | os.O_NONBLOCK))
     except OSError:
-        pass
-    return False
+        return False
+    return True
 
 
 class Run:
@@ -1026,6 +1023,83 @@ def large_ones(tally, name, folder, hosts, units):
     check(tally, f"{name}, the list", audit.stdout == b"yes\n", audit.stdout, audit.stderr)
 
 
+# ---- disks that are lost, hosts that can't build
+
+COPIES = 3
+# a package of some size, with what it was built on
+STORED = ('d="$OUT/$(echo $PKGPATH | tr / :)"; mkdir "$d" && { echo $PKGPATH; cat "$DEPS"/*/big 2>/dev/null | cksum; head -c 3000 /dev/zero; } > "$d/big"')
+
+
+def start_copying(host):
+    """Starts a driver that hands in what three stores have."""
+    folder = host.run.folder
+    push = f'cp "$SOURCE" "{folder}/work-$HOST/store/.$SHA256.$$" && mv "{folder}/work-$HOST/store/.$SHA256.$$" "{folder}/work-$HOST/store/$SHA256"'
+    get = f'cp "{folder}/work-$HOST/store/$SHA256" "$TARGET"'
+    words = [f"{TOP}/tools/build-jobs", "--digests", "0", "--copies", str(COPIES), "--push", push, "--fetch", get, host.work, host.log]
+    with open(host.out("driver"), "ab") as out:
+        host.driver = subprocess.Popen([*words, "--", "sh", "-c", STORED], stdin=subprocess.DEVNULL, stdout=out, stderr=out)
+
+
+def lost_disks(tally):
+    """The first two hosts of five that hand something in are killed right after it, with their stores: the others come to rest."""
+    name, count = "hosts whose disks are lost", 6
+    listing = "".join(f"a/u{it}.FULLPKGNAME=u{it}-1\n" for it in range(count))
+    listing += "".join(f"a/u{it}.BUILD_DEPENDS=a/u{it - 1}\n" for it in range(1, count))
+    with tempfile.TemporaryDirectory() as folder:
+        first = Lone(folder, listing, (1,) * 5)
+        hosts = [first, *(Host(first, me) for me in range(1, 5))]
+        dead = []
+        try:
+            for host in hosts:
+                os.makedirs(f"{host.work}/store")
+                host.start_node("--takeover", "2", "--rest", "8")
+                start_copying(host)
+            while len(dead) < 2 and until(lambda: has_handed_in(hosts, dead), 60):
+                host = has_handed_in(hosts, dead)
+                host.kill("node", "driver")
+                shutil.rmtree(f"{host.work}/store")
+                dead.append(host)
+            others = [host for host in hosts if host not in dead]
+            until(lambda: all(host.node.poll() is not None for host in others), 120)
+            told = [host.node.poll() for host in others], [held(host) for host in others]
+            right = len(dead) == 2 and told == ([0] * 3, [count] * 3)
+            check(tally, name, right, len(dead), told, [(host.lines()[-2:], contents(host.out("driver"))[-400:]) for host in others])
+        finally:
+            for host in hosts:
+                host.end()
+
+
+def has_handed_in(hosts, dead):
+    """A host that handed something in, and isn't dead."""
+    return next((host for host in hosts if host not in dead and b" < " in contents(host.out("driver"))), None)
+
+
+def a_host_that_cannot_build(tally):
+    """The command of one host of three ends with 75: nothing is marked, the others build all, and the host shows that it is away."""
+    name, count = "a host that can't build", 12
+    listing = "".join(f"a/u{it:02}.FULLPKGNAME=u{it}-1\n" for it in range(count))
+    with tempfile.TemporaryDirectory(dir=nodes.MEMORY) as folder:
+        first = Lone(folder, listing, (1, 1, 1))
+        hosts = [first, Host(first, 1), Host(first, 2)]
+        try:
+            for host in hosts:
+                host.start_node("--takeover", "3", "--jobs", "4")
+                script = "exit 75" if host.me == 2 else 'mkdir "$OUT/$(echo $PKGPATH | tr / :)"; sleep 0.2'
+                words = [f"{TOP}/tools/build-jobs", "-j", "4", "--ready", "false", host.work, host.log, "--", "sh", "-c", script]
+                with open(host.out("driver"), "ab") as out:
+                    host.driver = subprocess.Popen(words, stdin=subprocess.DEVNULL, stdout=out, stderr=out)
+            all_held = until(lambda: all(held(host) == count for host in hosts), 120)
+            marks = [names_in(f"{host.work}/failed") for host in hosts]
+            built = [contents(host.out("driver")).count(b" < ") for host in hosts]
+            check(tally, name, all_held and marks == [[], [], []] and built[2] == 0, marks, built, [host.lines()[-2:] for host in hosts])
+            # it claimed three units at least
+            is_away = os.path.exists(f"{hosts[2].work}/away") or contents(hosts[2].out("driver")).count(b" is given back: status 75") < 3
+            check(tally, f"{name}, that it is away", is_away, contents(hosts[2].out("driver")))
+        finally:
+            for host in hosts:
+                host.end()
+
+
 # ---- words, and what is refused before the first turn
 
 def wrong_words():
@@ -1121,7 +1195,8 @@ def run(tally):
     for one in (no_calls, faults, posted_on_the_disk, large, nearly_full, a_day):
         one(tally)
     beside(tally, (answers, rests_behind_all_jobs, taken_away, killed_while_it_builds, one_folder, overtaken, left_to_another, other_runs,
-                   beside_nodes, quiet, unanswered, voted_by_nobody, no_majority, long_run, manual_page, readme))
+                   beside_nodes, quiet, unanswered, voted_by_nobody, no_majority, long_run, manual_page, readme, lost_disks,
+                   a_host_that_cannot_build))
     if not shutil.which("bmake"):
         tally.skip("what is built of Makefiles", "there is no bmake here")
         return
