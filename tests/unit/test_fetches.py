@@ -20,7 +20,7 @@ def test_another_host_is_asked_while_one_does_not_answer(tmp_path, monkeypatch):
     fetches = Fetches(store, command, lambda: f"{tmp_path}/log", store.tasks, told.append)
     fetches.want(large, [0, 1])
     end = time.monotonic() + 30
-    while not os.path.exists(store.path(large.digest)) and time.monotonic() < end:
+    while not store.has(large) and time.monotonic() < end:
         fetches.look()
         store.tasks.look()
         time.sleep(0.02)
