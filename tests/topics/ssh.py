@@ -27,7 +27,7 @@ echo $$ >> "$HOME/pids"
 for word; do echo "word [$word]"; done
 echo "PKGPATH [$PKGPATH] PACKAGES [$PACKAGES] HOST [$HOST] SLOT [$SLOT]"; cat "$JOB" "$NAMES"; pwd
 (sleep 600 & echo $! >> "$HOME/pids")
-[ ! -e "$HOME/wait" ] || sleep "$(cat "$HOME/wait")" & 
+[ ! -e "$HOME/wait" ] || sleep "$(cat "$HOME/wait")" &
 wait $!
 for path in $PACKAGES; do
 	folder=$OUT/$(echo "$path" | tr / :)
@@ -64,8 +64,10 @@ class Place:
         return [f"{TOP}/tools/build-over-ssh", "--ssh", self.ssh, "--again", "1", *options, *HOSTS, "--", "build-port", "it's", "a  b", ""]
 
     def start(self, *options: str, **more: str) -> None:
+        # each job has a folder of its own to begin in
+        begins_in = tempfile.mkdtemp(dir=f"{self.folder}/obj")
         with open(f"{self.folder}/log", "ab") as log:
-            self.process = subprocess.Popen(self.words(*options), cwd=f"{self.folder}/obj", stdin=subprocess.DEVNULL, stdout=log, stderr=log,
+            self.process = subprocess.Popen(self.words(*options), cwd=begins_in, stdin=subprocess.DEVNULL, stdout=log, stderr=log,
                                             env={**os.environ, **self.env, **more}, start_new_session=True)
 
     def run(self, *options: str, **more: str) -> int:
