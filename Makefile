@@ -5,7 +5,8 @@ MANDIR ?=	$(PREFIX)/man
 # where the Python tools find their modules, from BINDIR: ../share/dpbn
 SHAREDIR ?=	$(PREFIX)/share/dpbn
 # what is installed beside the programs; each has a page in man/
-TOOLS =		expand-listing why-ignored unpack-log make-builds build-jobs make-listing order-listing build-over-ssh dpbn-report dpbn-host dpbn-hosts
+TOOLS =		expand-listing why-ignored unpack-log make-builds build-jobs make-listing order-listing build-over-ssh \
+		dpbn-report dpbn-host dpbn-hosts
 
 all:
 	tools/build dpbr dpbn

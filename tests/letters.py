@@ -69,7 +69,7 @@ def key_of_part(text: str) -> Tuple[int, int, int, str]:
 
 
 def key_of(version: str) -> Tuple[int, List[Tuple[int, int, int, str]], int]:
-    """What versions compare by: the number after v, what stands between dots, the number after p."""
+    """What versions compare by: the number after v, what is between dots, the number after p."""
     ends = {}
     for letter in "vp":
         found = re.fullmatch(f"(.*){letter}([0-9]+)", version)

@@ -49,7 +49,7 @@ class Port:
         return [self.family(flavor) + (f",{part}" if part else "") for part in self.parts]
 
     def first(self, flavor: str) -> str:
-        """The path that stands for the port where no subpackage is named."""
+        """The path that replaces the port where no subpackage is named."""
         return self.paths(flavor)[0]
 
     def name(self, flavor: str, part: str) -> str:
@@ -209,7 +209,7 @@ class Tree:
         return [need for kind in kinds for need in port.needs[flavor][kind]]
 
     def listed(self) -> Dict[str, Dict[str, Set[str]]]:
-        """The paths that a listing has, with what each needs by kind; of what is ignored for its own reasons just that."""
+        """The paths that a listing has, with what each needs by kind; of what is ignored for its own reasons only that."""
         found: Dict[str, Dict[str, Set[str]]] = {}
         for place, flavor in self.asked_for():
             port = self.ports[place]

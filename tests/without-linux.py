@@ -1,4 +1,4 @@
-"""Runs a Python program without the calls that only Linux has, or that Python on OpenBSD may lack: it stands in place of python3.
+"""Runs a Python program without the calls that only Linux has, or that Python on OpenBSD may lack: it is in place of python3.
 
     without-linux.py PYTHON [-I] [-S] [-B] [-c TEXT | -m MODULE | FILE] [ARGUMENT ..]
 

@@ -793,7 +793,7 @@ class Steps:
 
 
 def ten_steps(tally):
-    """The page's ten steps, from a dump to a flat folder of packages, word for word but for the hosts' addresses."""
+    """The page's ten steps, from a dump to a flat folder of packages, word for word except for the addresses of hosts."""
     name = "the ten steps of dpbn-bulk(7)"
     missing = [it for it in ("bmake", "patch") if not shutil.which(it)]
     if missing:

@@ -1,4 +1,4 @@
-"""tools/build-jobs when something goes wrong beside the builds: a lock that can't be looked at, lines that nobody reads, builds that can't be
+"""tools/build-jobs when something goes wrong next to the builds: a lock that can't be looked at, lines that nobody reads, builds that can't be
 ended or that close what they were given, what is over when a signal comes, a log that is broken."""
 import contextlib
 import os
@@ -90,7 +90,7 @@ def a_large_answer(tally):
 
 
 def a_build_that_cannot_be_ended(tally):
-    """A build whose supervisor doesn't answer: it is told, keeps its folder and its place, and its unit isn't begun beside it."""
+    """A build whose supervisor doesn't answer: it is reported, keeps its folder and its place, and its unit isn't begun next to it."""
     with laid('echo $PPID > "$TOP/supervisor"; ' + SLOW, "-j", "2", "--grace", "0") as (node, driver):
         name = node.post("a/b")
         until(lambda: has_text(f"{node.folder}/pid"))
@@ -110,7 +110,7 @@ def a_build_that_cannot_be_ended(tally):
 
 
 def a_command_that_closes_its_files(tally):
-    """A command that closes all that it was given, as ssh does, is still seen when its driver is killed: its unit isn't begun beside it."""
+    """A command that closes all that it was given, as ssh does, is still seen when its driver is killed: its unit isn't begun next to it."""
     script = ('exec python3 -c "import os, time\nos.closerange(3, 256)\nopen(os.environ[\'TOP\'] + \'/begun\', \'a\').write(\'x\\n\')\n'
               'while not os.path.exists(os.environ[\'TOP\'] + \'/go\'): time.sleep(0.05)\nos.mkdir(os.environ[\'OUT\'] + \'/a:b\')"')
     with laid(script) as (node, driver):
@@ -163,7 +163,7 @@ def places_after_a_kill(tally):
 
 
 def many_packages(tally):
-    """A unit of so many packages that they don't fit into one word: PACKAGES isn't set, and PACKAGES_FILE has them all."""
+    """A unit of this many packages that they don't fit into one word: PACKAGES isn't set, and PACKAGES_FILE has them all."""
     script = 'echo "${PACKAGES-unset}" > "$TOP/packages"; cd "$OUT" && sed s,/,:,g "$PACKAGES_FILE" | xargs mkdir'
     unit = "a/" + "b" * 120
     paths = [f"{unit},-s{number:05}" for number in range(1100)]
@@ -175,7 +175,7 @@ def many_packages(tally):
 
 
 def a_note_of_any_length(tally):
-    """A note whose length is broken is told with its place, and read again before the driver ends."""
+    """A note whose length is broken is reported with its place, and read again before the driver ends."""
     with laid(BUILD) as (node, driver):
         node.hold("a/b", {"a/b": []})
         made = node.take(node.post("c/d", built=["a/b"]))
@@ -241,7 +241,7 @@ def locks_that_are_not_there(tally):
 
 
 def stops(tally):
-    """While work/stop is there nothing begins, what runs goes on, and that nothing runs any more is told."""
+    """While work/stop exists nothing begins, what runs goes on, and that nothing runs any more is reported."""
     with laid(SLOW, "-j", "2") as (node, driver):
         name = node.post("a/b")
         until(lambda: has_text(f"{node.folder}/pid"))

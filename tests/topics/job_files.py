@@ -24,7 +24,7 @@ def asked(node):
 
 
 def a_dead_host(tally):
-    """Eight files of a host that doesn't answer are wanted: a file of one that is up comes at once all the same."""
+    """Eight files of a host that doesn't answer are needed: a file of one that is up comes at once all the same."""
     fetch = 'echo $HOST >> "$TOP/asked"; case $HOST in 0) sleep 20; exit 1;; esac; cp "$TOP/files/$SHA256" "$TARGET"'
     with node_alone() as node:
         dead = [f"a/d{number}" for number in range(8)]
@@ -168,7 +168,7 @@ def own_signature(tally):
 
 
 def another_file_system(tally):
-    """A store on another file system than the work folder: its files are copied, beside the loop, and that is told once."""
+    """A store on another file system than the work folder: its files are copied, next to the loop, and that is reported once."""
     place = next((path for path in ("/dev/shm", "/var/tmp", "/home") if os.access(path, os.W_OK) and os.stat(path).st_dev != os.stat("/tmp").st_dev), None)
     if not place:
         tally.skip("build-jobs, a store on another file system", "there is no second file system here to write on")

@@ -10,7 +10,7 @@ import time
 from topics.played import LIMIT, MAKE, add, end_builds, has_text, node_alone, read, until
 from topics.tally import TOP
 
-# build-jobs with minutes of so many seconds
+# build-jobs with minutes of this many seconds
 SHORT = """import sys
 sys.path.insert(0, {top!r} + "/tools")
 from dpbn_tools.driver import health, main

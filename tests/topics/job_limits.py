@@ -27,7 +27,7 @@ def limits(tally):
 
 
 def limits_by_name(tally):
-    """A file of limits, for units, packages and directories; it is read again when it was changed, and a bad line is told with its number."""
+    """A file of limits, for units, packages and directories; it is read again when it was changed, and a bad line is reported with its number."""
     with node_alone() as node:
         file = f"{node.folder}/limits"
         with open(file, "w", encoding="ascii") as out:

@@ -18,7 +18,7 @@ def listing(node, names):
 
 
 def names(tally):
-    """A build is told the listed names of its packages, and its place; what it hands in under another name fails."""
+    """A build gets the listed names of its packages, and its place; what it hands in under another name fails."""
     script = 'cat "$NAMES" > "$TOP/names"; cat "$TOP/claims" > "$OUT/NAMES"; ' + MAKE
     with node_alone() as node:
         path = listing(node, {"devel/gmake": "gmake-4.4.1", "a/b,z,-x": "b-x-1", "a/b,-main": "b-1", "a/b,-docs": "b-docs-1"})

@@ -55,7 +55,7 @@ def write_tree(top, **texts):
 
 
 def bulks(tally):
-    """A second bulk builds nothing; one in which a port changed builds that and what stands on it; and what is handed in is the same."""
+    """A second bulk builds nothing; one in which a port changed builds that and what is built on it; and what is handed in is the same."""
     with node_alone() as place:
         top = place.folder
         write_tree(top)
@@ -185,7 +185,7 @@ def standing_on(port, order, listed):
 
 
 def makefiles(tally):
-    """A second bulk of a tree of Makefiles, with one port changed, builds that port and what stands on it, and nothing else."""
+    """A second bulk of a tree of Makefiles, with one port changed, builds that port and what is built on it, and nothing else."""
     if not shutil.which("bmake"):
         tally.skip("build-jobs, a second bulk of a tree of Makefiles", "there is no bmake here")
         return
@@ -194,7 +194,7 @@ def makefiles(tally):
         order, listed = tree_of_makefiles(top)
         begun = Makefiles(top, 1, order, listed).run()
         add(tally, "a first bulk of Makefiles", [it.partition(",")[0] for it in begun] == sorted(order), begun)
-        # a port on which some stand, and not all
+        # a port on which some are built, and not all
         port = next(it for it in order[1:] if 2 <= len(standing_on(it, order, listed)) <= 9)
         with open(f"{top}/tree/{port}/Makefile", "a", encoding="ascii") as file:
             file.write("# changed\n")

@@ -1,4 +1,4 @@
-"""tools/build-jobs beside a node that is played (played.py): what is built on what, what fails, what is refused, and how it ends. And
+"""tools/build-jobs next to a node that is played (played.py): what is built on what, what fails, what is refused, and how it ends. And
 what tools/unpack-log makes of packages whose large files went another way."""
 import hashlib
 import os
@@ -186,7 +186,7 @@ DEEP = 'if [ $PKGPATH = c/d ]; then cd "$OUT/c:d" && python3 -c "import os\nfor 
 
 
 def builds_that_misbehave(tally):
-    """What a build leaves behind ends with it; what can't be read fails it, and nothing else; and how it is named ends nothing."""
+    """What a build leaves after ends with it; what can't be read fails it, and nothing else; and how it is named ends nothing."""
     with laid('sleep 1000 & echo $! > "$TOP/left"; ' + BUILD) as (node, driver):
         made = node.take(node.post("a/b"))
         add(tally, "what a build left running", bool(made) and until(lambda: not is_alive(node.folder, "left")), made)
@@ -202,7 +202,7 @@ def builds_that_misbehave(tally):
 
 
 def what_the_system_refuses(tally):
-    """What can't be written is told, and tried again; a host that stops leaves no mark; a folder that was made anew ends it."""
+    """What can't be written is reported, and tried again; a host that stops leaves no mark; a folder that was made anew ends it."""
     with laid(BUILD) as (node, driver):
         until(lambda: os.path.exists(f"{node.work}/lock"))
         os.rename(f"{node.work}/done", f"{node.work}/gone")
@@ -242,7 +242,7 @@ def what_the_system_refuses(tally):
 
 
 def what_is_no_job(tally):
-    """What stands among the jobs and is none, whatever it is and says, keeps no other job back."""
+    """Something that isn't a job keeps no other job back."""
     odd = {"a name of other bytes": b"@unit a/\xff\n@package a/b\n", "a name with a zero byte": b"@unit a/b\n@package a/\0\n", "no path": b"@unit ../x\n@package ../x\n"}
     with laid(BUILD) as (node, driver):
         for what, text in (*odd.items(), ("no host", b"@unit a/c\n@package a/c\n@host x\n")):
@@ -261,7 +261,7 @@ def what_is_no_job(tally):
 
 
 def where_it_stands(tally):
-    """A work folder may have any name; what can't be told, since its output is full, or nobody reads it, keeps nothing back."""
+    """A work folder may have any name; what can't be reported, since its output is full, or nobody reads it, keeps nothing back."""
     with tempfile.TemporaryDirectory() as folder:
         os.mkdir(f"{folder}/w\udcff")
         node = Node(f"{folder}/w\udcff")
@@ -295,7 +295,7 @@ def unread():
 
 
 def commands(tally):
-    """A command is found from where build-jobs is started, and one that isn't there is told at once."""
+    """A command is found from where build-jobs is started, and one that isn't there is reported at once."""
     with laid(BUILD + '; echo "$0 $@" > "$OUT/a:b/words"', more=("--", "x", "--", "-j", "--")) as (node, driver):
         made = node.take(node.post("a/b"))
         add(tally, "a command's words", made.get("a/b", {}).get("words") == b"-- x -- -j --\n", (made, driver.lines()))
@@ -391,7 +391,7 @@ def fetched(tally, nodes, digest):
 
 
 def unpacked(tally, node, names):
-    """unpack-log with the store makes whole packages; what the store has not, or has otherwise, stays as it was, and is told."""
+    """unpack-log with the store makes whole packages; what the store has not, or has otherwise, stays as it was, and is reported."""
     store = f"{node.work}/store"
     said = packages.tool("unpack-log", "--store", store, node.log, f"{node.folder}/out")
     whole = {path: sorted(os.listdir(f"{node.folder}/out/{path}")) for path in ("a:x", "a:y")}
@@ -409,7 +409,7 @@ def unpacked(tally, node, names):
 
 
 def stand_ins(tally):
-    """Only what names its own file stands for one, and only where that has a place."""
+    """Only what names its own file replaces one, and only where that has a place."""
     told = {name: f"SHA256 ({name}) = {packages.digest(b'large')}\nSIZE ({name}) = 5\n".encode() for name in ("x", "w/v", "u")}
     files = [("x", b"x"), ("x.sha256", told["x"]), ("y.sha256", told["x"]), ("w/v.sha256", told["w/v"]), ("u.sha256", told["u"]), ("u/t", b"t")]
     with tempfile.TemporaryDirectory() as folder:
@@ -426,7 +426,7 @@ def stand_ins(tally):
 
 
 def words(tally):
-    """Wrong words are told, and nothing is made."""
+    """Wrong words are reported, and nothing is made."""
     with tempfile.TemporaryDirectory() as folder:
         for wrong in (["-j", "0"], ["-j", "65"], ["--digests", "x"], []):
             said = packages.tool("build-jobs", *wrong, f"{folder}/work", *([f"{folder}/log", "--", "true"] if wrong else []))

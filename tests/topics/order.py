@@ -1,4 +1,4 @@
-"""tools/order-listing: the order that it writes, beside one that is had another way, and what it refuses."""
+"""tools/order-listing: the order that it writes, next to one that is obtained another way, and what it refuses."""
 import os
 import random
 import subprocess
@@ -16,7 +16,7 @@ UNIT_SPLIT = "m/m,-main.FULLPKGNAME=m-1\n" + D + "m/m,-docs.FULLPKGNAME=m-docs-1
 RUNS = "x/lib.FULLPKGNAME=lib-1\nx/lib.RUN_DEPENDS=y/c x/peer\nx/peer.FULLPKGNAME=peer-1\nx/peer.RUN_DEPENDS=x/lib\nx/top.FULLPKGNAME=top-1\nx/top.BUILD_DEPENDS=x/lib\n"
 RUNS_ORDERED = C + RUNS
 IGNORED = "x/i.FULLPKGNAME=i-1\nx/i.IGNORE=why\nx/j.FULLPKGNAME=j-1\nx/j.RUN_DEPENDS=x/i\nx/k.FULLPKGNAME=k-1\nx/k.BUILD_DEPENDS=x/none\n"
-# the name, the listing, the times, the listing that has to come out, and what has to be printed beside it
+# the name, the listing, the times, the listing that has to come out, and what has to be printed next to it
 CASES = [
     ("nothing", "", [], "", "0 units, 0 with a time of their own"),
     ("no times", D + C + B + A, [], C + A + D + B, "4 units, 0 with a time of their own; all builds take 4 s, the longest chain 2 s: y/c, y/d"),
@@ -115,7 +115,7 @@ def naive(listing: str, seconds: Dict[str, float]) -> Dict[str, float]:
 
 
 def made(tally) -> None:
-    """A made tree: the same lines, and units by the length of their chains, reckoned another way."""
+    """A made tree: the same lines, and units by the length of their chains, computed another way."""
     tree = Tree(.04, seed=3)
     kinds = ("BUILD_DEPENDS", "LIB_DEPENDS", "RUN_DEPENDS")
     lines, dice = [], random.Random(4)

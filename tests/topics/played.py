@@ -1,4 +1,4 @@
-"""A node that is played, and tools/build-jobs beside it: the node posts jobs in its work folder, takes what is handed in, and holds it
+"""A node that is played, and tools/build-jobs next to it: the node posts jobs in its work folder, takes what is handed in, and holds it
 on a log of its own. Nothing here is of one system alone."""
 import contextlib
 import hashlib
@@ -30,7 +30,7 @@ def name_of(task):
 
 
 def digest_text(name, data):
-    """The file that stands for one with these bytes."""
+    """The file that replaces one with these bytes."""
     return f"SHA256 ({name}) = {hashlib.sha256(data).hexdigest()}\nSIZE ({name}) = {len(data)}\n".encode()
 
 

@@ -1,5 +1,5 @@
 """The tools without what only Linux has (tests/without-linux): a Python without waitid, sendfile, /proc and the like, the one true awk, a
-ksh as sh, bmake as make, and no timeout, flock or sha256sum. That stands in place of OpenBSD, on which nothing here ran. All of the topics
+ksh as sh, bmake as make, and no timeout, flock or sha256sum. That is in place of OpenBSD, on which nothing here ran. All of the topics
 `jobs` and `tools` run so by hand: tests/without-linux tests/run jobs tools."""
 import os
 import shutil
@@ -72,6 +72,7 @@ def locks(tally) -> None:
 def places_without_flock(tally) -> None:
     """build-over-ssh needs no flock(1) where the driver says which place a job has, and sha256(1) in place of sha256sum."""
     if not shutil.which("mksh") and not shutil.which("oksh"):
+        tally.skip("build-over-ssh by a ksh", "there is no mksh and no oksh here")
         return
     with ssh.laid() as place:
         with open(f"{place.folder}/go", "w", encoding="utf-8") as file:

@@ -1,4 +1,4 @@
-"""tools/dpbn-report: letters beside the stored cases of `dpbr status`, and a played run whose blocked paths were counted by hand. The
+"""tools/dpbn-report: letters next to the stored cases of `dpbr status`, and a played run whose blocked paths were counted by hand. The
 other files of its topic are report_*.py."""
 import os
 import random
@@ -103,7 +103,7 @@ def stored(tally):
 # ---- blocked paths, counted in another way
 
 def built_without(division, held, left_out):
-    """The paths that come to be held if all is built that can be, but for some units: by building again and again whatever can be."""
+    """The paths that come to be held if all is built that can be, except for some units: by building again and again whatever can be."""
     held, run = set(held), division.tree.run
     while True:
         able = set(held)

@@ -103,7 +103,7 @@ class Played:
         put(f"{self.folder}/logs/node-{me}.log", log_of(self.tree, notes, me, **more))
 
     def append(self, me, note):
-        """A note behind the closed gate, which is opened then."""
+        """A note after the closed gate, which is opened then."""
         with open(f"{self.folder}/logs/node-{me}.log", "r+b") as log:
             end = log.seek(0, 2) - 1
             log.write(len(note).to_bytes(4, "big") + note + b"\0")

@@ -1,4 +1,4 @@
-"""dpbn-report beside three real nodes and their drivers, which build a tree of Makefiles by bmake(1)."""
+"""dpbn-report next to three real nodes and their drivers, which build a tree of Makefiles by bmake(1)."""
 import json
 import os
 import re
@@ -17,7 +17,7 @@ LETTERS = re.compile(rb"node \d: I=(\d+) B=(\d+) Q=(\d+) T=(\d+) !=(\d+)")
 
 
 class Seen:
-    """A report beside three hosts that build, each second; and what it said at several moments."""
+    """A report next to three hosts that build, each second; and what it said at several moments."""
 
     def __init__(self, run):
         self.run, self.folder = run, f"{run.folder}/report"

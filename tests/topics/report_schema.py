@@ -1,4 +1,4 @@
-"""status.json of dpbn-report beside the table of its fields in dpbn-formats(5)."""
+"""status.json of dpbn-report next to the table of its fields in dpbn-formats(5)."""
 import re
 import sys
 import tempfile

@@ -119,7 +119,7 @@ def morning(tally):
 
 
 def made_listing(count, dice):
-    """A listing of so many paths, of which most need some others."""
+    """A listing of this many paths, of which most need some others."""
     lines, paths = [], []
     while len(paths) < count:
         number, size = len(paths), min(dice.choice((1, 1, 1, 2, 3)), count - len(paths))

@@ -19,7 +19,7 @@ LIMIT = 120
 # how long something may go on running on the host, in seconds, and what a loaded machine may take in addition
 MOST, MORE = 10, 10
 HOSTS = ("ob1:2", "ob2:2")
-# what builds there: it says what it was told, and waits as long as the file `wait` has; two builds at once at a place are noted
+# what builds there: it says what it was given, and waits as long as the file `wait` has; two builds at once at a place are noted
 BUILD = r"""#!/bin/sh
 mkdir "$HOME/at.$SLOT" || echo twice >> "$HOME/twice"
 echo $$ >> "$HOME/pids"
@@ -134,10 +134,19 @@ def until(holds, seconds: float = 60) -> bool:
     return bool(holds())
 
 
+def removed(folder: str) -> bool:
+    shutil.rmtree(folder, ignore_errors=True)
+    return not os.path.exists(folder)
+
+
 @contextlib.contextmanager
 def laid() -> Iterator[Place]:
-    with tempfile.TemporaryDirectory() as folder:
+    folder = tempfile.mkdtemp()
+    try:
         yield Place(folder)
+    finally:
+        # what is ended on the host may write for some seconds
+        until(lambda: removed(folder), MOST + MORE)
 
 
 SAW = "./a:b/.signature\n./a:b/b-1.tgz\n./c:d,-main/same\n./c:d,-main/sub folder/it's.tgz\n"
@@ -153,7 +162,7 @@ def built(place: Place) -> str:
 
 
 def a_build(tally) -> None:
-    """What COMMAND is told and finds, what comes back, and what is sent: each file once."""
+    """What COMMAND is given and finds, what comes back, and what is sent: each file once."""
     with laid() as place:
         status = place.run()
         tally.add("build-over-ssh", f"status {status}; {place.log()[-600:]}" if status else built(place))
@@ -221,7 +230,7 @@ def away(tally) -> None:
 def free_places(tally) -> None:
     """Where the driver doesn't say which place this is, each job takes one that is free."""
     if not shutil.which("flock"):
-        print("tests/run: no flock here: places that nobody names are not tried", flush=True)
+        tally.skip("build-over-ssh without SLOT", "there is no flock here")
         return
     with laid() as place:
         place.file("ob1/wait", "600")
@@ -315,7 +324,7 @@ def end(place: Place, driver: "Optional[subprocess.Popen[bytes]]", how: str) -> 
 
 
 def broken_line(tally, step: str, count: int, how: str) -> None:
-    """The line breaks in a step after so many bytes: the job is given back, or begun again, and nothing goes on there."""
+    """The line breaks in a step after this many bytes: the job is given back, or begun again, and nothing goes on there."""
     with laid() as place:
         place.file("cut", f"{step} {count} {how} 9")
         status = place.run("--wait", "0")
@@ -425,7 +434,7 @@ def real_sshd(folder: str) -> Iterator[str]:
 
 def real(tally) -> None:
     if not shutil.which("sshd", path="/usr/sbin:/usr/bin") or not shutil.which("ssh-keygen"):
-        print("tests/run: no sshd here: build-over-ssh is tried with an ssh that is played alone", flush=True)
+        tally.skip("build-over-ssh with a real sshd", "there is no sshd here: Debian's openssh-server has it")
         return
     with laid() as place, real_sshd(place.folder) as ssh:
         place.ssh, place.hosts = ssh, f"{place.folder}/hosts"

@@ -1,6 +1,6 @@
-"""tools/expand-listing on stored dumps, and what dpbr makes of its output; tools/why-ignored on stored listings; tools/draw-trace on
-the example, a short and a long trace; what tools/make-builds refuses; what tools/unpack-log does with files that can't stand in one
-folder, and where it is disturbed; and else what publishers take away (packages.py)."""
+"""tools/expand-listing on stored dumps, and what dpbr makes of its output; tools/why-ignored on stored listings. tools/draw-trace on
+the example, a short and a long trace. What tools/make-builds refuses, and what tools/unpack-log does with files that can't be in
+one folder, and when it is disturbed. The rest of both is in packages.py."""
 import contextlib
 import ctypes
 import json
@@ -19,7 +19,7 @@ from topics import driver, packages
 from topics.tally import EXAMPLES, TESTS, TOP, Answer, answer, contents, difference
 
 ROW, MOST_HEIGHT = 24, 1700
-# of so many packages' builds pictures are drawn that fold their events
+# of this many packages' builds pictures are drawn that fold their events
 FOLDED = (84, 1667)
 SIGNALS = (signal.SIGHUP, signal.SIGINT, signal.SIGTERM)
 # how large a build may be, and with --digests where enough files could give way
@@ -34,7 +34,7 @@ def asked_of(listing, trace, is_single):
 
 
 def drawn(*words):
-    """What draw-trace prints, in the place of whose program stands what the driver answers: so its sources are compiled once for all
+    """What draw-trace prints, with the driver's answers in place of its program: so its sources are compiled once for all
     pictures, if it isn't built."""
     asked = asked_of(*map(contents, words[-2:]), "--single" in words)
     with tempfile.TemporaryDirectory() as folder:
@@ -58,7 +58,7 @@ def life(n):
 
 
 def builds(count, events):
-    """A listing of so many packages, and the trace of the first so many events of their builds, one after the other."""
+    """A listing of this many packages, and the trace of the first events of their builds, this many, one after the other."""
     listing = "".join(f"a/p{n}.FULLPKGNAME=p{n}-1\n" for n in range(count))
     return listing, {"events": [event for n in range(count) for event in life(n)][:events], "members": 3}
 
@@ -72,7 +72,7 @@ def lone():
 
 
 def picture(tally, name, listing, trace, *words):
-    """The picture of the trace, and its height; or nothing, which is told."""
+    """The picture of the trace, and its height; or nothing, which is reported."""
     with tempfile.TemporaryDirectory() as folder:
         for file, text in (("listing", listing), ("trace", json.dumps(trace))):
             with open(f"{folder}/{file}", "w") as out:
@@ -85,7 +85,7 @@ def picture(tally, name, listing, trace, *words):
 
 
 def agreed(svg):
-    """How many packages the bars stand for."""
+    """How many packages the bars represent."""
     named, counted = re.findall(">agreed: ([^<]*)", svg), re.findall(">([0-9]+) packages agreed<", svg)
     return sum(len(paths.split(", ")) for paths in named) + sum(map(int, counted))
 
@@ -140,21 +140,21 @@ driver.ask(lambda: [asked_of(*drawing) for drawing in drawings()])
 
 
 def pictures(tally):
-    """The README's picture is the example's, shows the promise that reports a vote, and has its words where nothing else is. Ten
+    """The README's picture is the example's, shows the promise that reports a vote, and has its words at free places. Ten
     events have a row each, and a thousand, or twenty thousand, are folded into a picture of some rows."""
     done = drawn(f"{EXAMPLES}/listing", f"{EXAMPLES}/trace")
     wanted = (contents(f"{EXAMPLES}/take-over.svg"), b"", 0)
     tally.add("draw-trace of the example", difference((done.stdout, done.stderr, done.returncode), wanted))
     lies, count = covered(contents(f"{EXAMPLES}/take-over.svg"))
-    tally.add("draw-trace of the example, where its words stand", f"{lies} of {count} lie on something" if lies or count != 12 else "")
+    tally.add("draw-trace of the example, the places of its words", f"{lies} of {count} lie on something" if lies or count != 12 else "")
     telling = (b">7 promise: it voted for node 0's build<", b">8 propose node 0's build again<", b">deliver 7 to node 1<")
     told = [text for text in telling if text not in done.stdout]
-    tally.add("draw-trace of the example, what it tells", f"{told} isn't there" if told else "")
+    tally.add("draw-trace of the example, what it says", f"{told} isn't there" if told else "")
     name = "draw-trace of ten events"
     svg, height = picture(tally, name, *builds(1, 10))
     rows, notes = len(set(re.findall('<text x="48" y="([0-9]+)"', svg))), svg.count('width="6" height="6"')
     if svg:
-        # six notes, and the legend's; above and below ten rows stand less than six rows of words
+        # six notes, and the legend's; above and below ten rows there are fewer than six rows of words
         told = (rows, agreed(svg), notes, " events<" in svg, 10 * ROW < height < 16 * ROW)
         tally.add(name, "" if told == (10, 1, 7, False, True) else f"{told} in {height} pixels")
     for count in FOLDED:
@@ -168,15 +168,15 @@ def pictures(tally):
 
 
 def folded(tally, count):
-    """A picture of the builds of so many packages, of twelve events each: a page, whose bars stand for all of them, with its words where
+    """A picture of the builds of this many packages, of twelve events each: a page, whose bars represent all of them, with its words where
     nothing else is and how the list grew."""
     name = f"draw-trace of {12 * count} events"
     svg, height = picture(tally, name, *builds(count, 12 * count))
     if svg:
         tally.add(name, "" if agreed(svg) == count and height < MOST_HEIGHT else f"{agreed(svg)} packages in {height} pixels")
         lies, words = covered(svg)
-        tally.add(f"{name}, where its words stand", f"{lies} of {words} lie on something" if lies or not words else "")
-        tally.add(f"{name}, how the list grew", "" if f">{count} packages after {12 * count} events<" in svg else "it isn't told")
+        tally.add(f"{name}, the places of its words", f"{lies} of {words} lie on something" if lies or not words else "")
+        tally.add(f"{name}, how the list grew", "" if f">{count} packages after {12 * count} events<" in svg else "it isn't reported")
 
 
 def asked(tool, file):
@@ -244,7 +244,7 @@ def refused(tally, name, folder, *words, what=b": a/b: a build of it has at leas
 
 
 def fitting(tally, name, folder, *words, least=0, most=MOST):
-    """make-builds ends with 0, and a build of what it wrote has so many bytes; where there are few to spare it is told."""
+    """make-builds ends with 0, and a build of what it wrote has this many bytes; if there are few to spare it is reported."""
     out, said, status = packages.tool("make-builds", *words, folder)
     size = size_of(made(out)) if status == 0 else 0
     told = b"" if size <= MOST_SPARED else b"make-builds: a/b: %d bytes are left for its names and for what it needs\n" % (MOST - size)
@@ -253,14 +253,14 @@ def fitting(tally, name, folder, *words, least=0, most=MOST):
 
 
 def as_large_as_may_be(paths):
-    """A file for each of these packages, so that a build of all of them has just as many bytes as may be."""
+    """A file for each of these packages, so that a build of all of them has exactly as many bytes as may be."""
     sizes = [MOST // len(paths) - 1_000] * len(paths)
     sizes[0] += MOST - size_of({path: [("x", bytes(size))] for path, size in zip(paths, sizes)})
     return {f"{path.replace('/', ':')}/x": bytes(size) for path, size in zip(paths, sizes)}
 
 
 def limits(tally):
-    """A build may have just so many bytes, with its lines, of one package and of two."""
+    """A build may have exactly this many bytes, with its lines, of one package and of two."""
     for paths in (["a/b"], ["a/b,-x", "a/b,-y"]):
         name, files = f"a build of {len(paths)}", as_large_as_may_be(paths)
         with laid(files) as folder:
@@ -274,7 +274,7 @@ def limits(tally):
 
 
 def single(tally):
-    """With --single packages that differ in the subpackage alone are a build each."""
+    """With --single, packages that differ only in the subpackage are a build each."""
     with laid(as_large_as_may_be(["a/b,-x", "a/b,-y", "a/b,-z"])) as folder:
         with open(f"{folder}/a:b,-x/y", "wb") as file:
             file.write(b"x")
@@ -287,7 +287,7 @@ def single(tally):
 
 
 def many_files(tally):
-    """The lines of many small files count; with --digests so many give way that there is room to spare."""
+    """The lines of many small files count; with --digests this many give way that there is room to spare."""
     for count, size, fewer in ((12_000, 300, 10_800), (14_000, 240, 12_800)):
         with laid({f"a:b/{n:05}": b"x" * size for n in range(count)}) as folder:
             refused(tally, f"{count} files of {size} bytes", folder)
@@ -300,7 +300,7 @@ def many_files(tally):
 
 
 def other_names(tally):
-    """A file gives way where it has to, and another stands for it by a name that is no file's and no folder's, and is shorter."""
+    """A file gives way if it has to, and another one replaces it, with a name that no file or folder has, and is shorter."""
     large, small, dot = bytes(2_500_000), bytes(1_000_000), (b"x" * 10)
     for name, files, wanted in (("names of files", {"x": large, "x.sha256": dot, "z": large[1:]}, ["x", "x.sha256", "z.sha256"]),
                                 ("names of folders", {"x": large, "x.sha256/y": dot, "z": large[1:]}, ["x", "x.sha256/y", "z.sha256"]),
@@ -320,7 +320,7 @@ def forbidden():
 
 
 def unread(tally):
-    """Where a file can't be read, which elsewhere root always can, nothing is written; nor where something is a link."""
+    """If a file can't be read, or something is a link, nothing is written."""
     if os.geteuid() or sys.platform == "linux":
         with laid({"a:b/x": b"x", "c:d/x": b"x"}) as folder:
             os.chmod(f"{folder}/c:d/x", 0)
@@ -341,7 +341,7 @@ def brought(tally):
 
 
 def odd_package(tally):
-    """Of a package whose files can't stand in one folder the record is written; the others, and both lists, are as always."""
+    """Of a package whose files can't be in one folder the record is written; the others, and both lists, are as always."""
     odd = packages.record("c/d", "d-2", [("x", b"x"), ("x/y", b"y")], built=[packages.MAIN_LINE])
     with tempfile.TemporaryDirectory() as folder:
         said = packages.unpacked(folder, packages.log([packages.HELD_UNIT, packages.note(4, "c/d", packages.build(odd))]))

@@ -1,5 +1,5 @@
-"""A ports tree, read: tools/make-listing beside a make that is played (tests/played-make), under each awk and shell that the machine
-has; a made tree of OpenBSD's shape (tests/made_tree.py), its letters beside a second program (tests/letters.py); tools/order-listing."""
+"""A ports tree, read: tools/make-listing next to a make that is played (tests/played-make), under each awk and shell that the machine
+has; a made tree of OpenBSD's shape (tests/made_tree.py), its letters next to a second program (tests/letters.py); tools/order-listing."""
 import json
 import os
 import re
@@ -165,12 +165,11 @@ def laid_awk(folder: str, words: List[str]) -> Dict[str, str]:
     return {"PATH": f"{folder}/bin:{os.environ['PATH']}"}
 
 
-def skipped(name: str) -> bool:
-    """Whether the machine lacks a program, which is printed."""
-    if shutil.which(name):
-        return False
-    print(f"tests/run: no {name} here: make-listing is not tried with it", flush=True)
-    return True
+def skipped(tally, name: str) -> bool:
+    """Whether the machine lacks a program: then what would be tried with it is skipped."""
+    if not shutil.which(name):
+        tally.skip(f"make-listing with {name}", f"there is no {name} here")
+    return not shutil.which(name)
 
 
 def cases(tally) -> None:
@@ -184,14 +183,14 @@ def cases(tally) -> None:
                 case.wanted = MULTI_LISTED
             case.run(tally, [], {}, "")
     for name, words in AWKS.items():
-        if not skipped(words[0]):
+        if not skipped(tally, words[0]):
             with tempfile.TemporaryDirectory() as folder:
                 more = laid_awk(folder, words)
                 for case in GOOD + BAD:
                     if case.name != "without some":
                         case.run(tally, [], more, f", with {name}")
     for shell in SHELLS:
-        if not skipped(shell):
+        if not skipped(tally, shell):
             for case in GOOD[:4] + GOOD[-2:-1] + BAD[-2:]:
                 case.run(tally, [str(shutil.which(shell))], {}, f", with {shell}")
 
@@ -271,13 +270,13 @@ def too_large(tally) -> None:
 def real_make(tally) -> None:
     """A small tree of Makefiles by bmake(1): folders of ports, flavors, a default one and none, pseudo-flavors, subpackages, errors."""
     if not shutil.which("bmake"):
-        print("tests/run: no bmake here: make-listing is tried with a make that is played alone", flush=True)
+        tally.skip("make-listing on a tree of Makefiles", "there is no bmake here")
         return
-    wanted = contents(f"{TESTS}/ports.listing").decode()
+    wanted = contents(f"{TESTS}/small-tree/listing").decode()
     for words in ((".",), (".", "--only", "net/needs")):
-        done = subprocess.run([f"{TOP}/tools/make-listing", *words], cwd=f"{TESTS}/ports", stdin=subprocess.DEVNULL, capture_output=True, timeout=LIMIT,
+        done = subprocess.run([f"{TOP}/tools/make-listing", *words], cwd=f"{TESTS}/small-tree", stdin=subprocess.DEVNULL, capture_output=True, timeout=LIMIT,
                               env={**os.environ, "MAKE": "bmake"}, check=False)
-        # where make stands, and how it says that, are its own
+        # where make is, and how it says that, are its own
         got = re.sub(r'error: .* "Fatal', 'error: MESSAGE "Fatal', done.stdout.decode())
         if "--only" in words:
             got = "".join(sorted(line for line in got.splitlines(True) if "IGNORE" not in line))
@@ -307,7 +306,7 @@ def made(scale: float, folder: str) -> Tuple[Tree, Ports]:
 
 
 def same_needs(got: Dict[str, Dict[str, set]], tree: Tree) -> str:
-    """How what a listing says differs from what the made tree says, if it does. What needs a port that make fails at needs what stands
+    """How what a listing says differs from what the made tree says, if it does. What needs a port that make fails at needs what is
     for it."""
     wanted, broken = tree.listed(), {place for place, port in tree.ports.items() if port.fault == "break"}
     if set(got) != set(wanted):
@@ -323,7 +322,7 @@ def same_needs(got: Dict[str, Dict[str, set]], tree: Tree) -> str:
 
 
 def whole_tree(tally, scale: float = SCALE, most_seconds: float = LIMIT) -> None:
-    """A made tree: its paths and what they need, and its letters beside the second program's."""
+    """A made tree: its paths and what they need, and its letters next to the second program's."""
     with tempfile.TemporaryDirectory() as folder:
         tree, ports = made(scale, folder)
         began = time.monotonic()
@@ -339,7 +338,7 @@ def whole_tree(tally, scale: float = SCALE, most_seconds: float = LIMIT) -> None
 
 
 def with_letters(tally, name: str, folder: str, listing: str) -> None:
-    """The letters of a listing, beside the second program's."""
+    """The letters of a listing, next to the second program's."""
     wanted = letters.printed(listing)
     tally.add(f"{name}, its letters by the second program", "" if re.search(r"Q=[1-9]\d* T=[1-9]\d* !=[1-9]", wanted.splitlines()[-1]) else wanted.splitlines()[-1])
     if not os.path.exists(PROGRAM):

@@ -7,7 +7,7 @@ import statistics
 from typing import Dict, List, NamedTuple, Optional
 
 LINE = re.compile(r"(\S+) ([0-9]{1,12}(?:\.[0-9]{1,9})?) ([0-9]{1,18}) (\S+)")
-# a unit of which no time is known takes the median of its category, if there are so many times of that
+# a unit of which no time is known takes the median of its category, if there are this many times of that
 LEAST_OF_CATEGORY = 3
 
 

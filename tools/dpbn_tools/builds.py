@@ -1,4 +1,4 @@
-"""The text of builds, in the form of dpbn-formats(5), and whether a build can have so many bytes."""
+"""The text of builds, in the form of dpbn-formats(5), and whether a build can have this many bytes."""
 from __future__ import annotations
 
 from typing import Dict, List, Optional
@@ -8,7 +8,7 @@ from dpbn_tools.paths import group_of
 
 # the most bytes of a build's text, and how many of them are left for the lines that a folder doesn't say
 MAX_BUILD, SPARE = 4_194_304, 1_048_576
-# how many bytes a record has beside its path and its files, if its name and its claim are as short as any, and nothing is needed
+# how many bytes a record has next to its path and its files, if its name and its claim are as short as any, and nothing is needed
 LEAST = len("@dpb 1\n@name a-1\n@comment pkgpath=\n@host 0\n@claim 1.0\n\n")
 
 

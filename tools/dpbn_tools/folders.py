@@ -30,7 +30,7 @@ def chunks(file: BinaryIO) -> Iterator[bytes]:
 
 
 class File:
-    """A file of a package: the name that the build has for it, where it is, its size, and its bytes if they aren't its own."""
+    """A file of a package: the name that the build has for it, if it is, its size, and its bytes if they aren't its own."""
 
     def __init__(self, folder: str, name: str, size: int) -> None:
         self.name, self.place, self.size = name, f"{folder}/{name}", size

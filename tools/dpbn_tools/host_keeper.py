@@ -111,7 +111,7 @@ class Part:
 
 
 def end_process(pid: Optional[int], seconds: float, runs: Callable[[], bool]) -> bool:
-    """Tells a process to end, and ends it if it still runs after some time. Returns whether it has ended."""
+    """Asks a process to end, and ends it if it still runs after some time. Returns whether it has ended."""
     for number, wait in ((signal.SIGTERM, seconds), (signal.SIGKILL, 5.0)):
         with contextlib.suppress(ProcessLookupError, PermissionError):
             if pid:

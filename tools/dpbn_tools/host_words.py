@@ -38,7 +38,7 @@ def has(option: str, words: List[str]) -> bool:
 
 
 def environment(folder: Folder) -> Dict[str, str]:
-    """What programs of this host see: nothing of the connection by which they were started, and the programs beside this one."""
+    """What programs of this host see: nothing of the connection by which they were started, and the programs next to this one."""
     found = {name: value for name, value in os.environ.items() if not name.startswith("SSH_")}
     own = os.path.dirname(os.path.abspath(sys.argv[0]))
     path = found.get("PATH", os.defpath).split(":")

@@ -129,7 +129,7 @@ class Collection:
 
 
 def beside(name: str) -> str:
-    """Another tool, beside this one or on the PATH."""
+    """Another tool, next to this one or on the PATH."""
     own = os.path.join(os.path.dirname(os.path.abspath(sys.argv[0])), name)
     return own if os.path.exists(own) else name
 

@@ -86,7 +86,7 @@ class Teller:
 
 
 def report(file: HostsFile, folder: str, more: List[str], seconds: int) -> int:
-    """Runs dpbn-report(1) on copies, once, or as long as it runs, with copies of each so many seconds."""
+    """Runs dpbn-report(1) on copies, once, or as long as it runs, with copies of each this many seconds."""
     os.makedirs(folder, exist_ok=True)
     teller = Teller()
     teller.tell(bring_all(file, folder))

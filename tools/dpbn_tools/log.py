@@ -17,7 +17,7 @@ from typing import BinaryIO, Callable, Container, Iterator, List, NamedTuple, Op
 from dpbn_tools.paths import DIGEST, NUMBER, group_of, is_file_name, is_name, is_path, is_signature
 
 MAX_BUILD, MAX_ROUND, MAX_MEMBERS, MAX_PACKAGES = 4_194_304, 2**63 - 1, 9, 16_384
-# a note has a build, and beside it a kind, a path, a claim and some lengths
+# a note has a build, and next to it a kind, a path, a claim and some lengths
 MAX_NOTE = MAX_BUILD + 1024
 OPENED, PROMISED, VOTED, HELD = 1, 2, 3, 4
 # no file of a package has this name
@@ -125,7 +125,7 @@ class Record:
         self.whole = PackedFile(WHOLE_RECORD, place, len(text), self.digest)
         # the first file whose folder is itself a file of the record: they can't be laid out in one folder
         self.inner = inner_of([file.name for file in self.files])
-        # the files that went by their digests, in the order of what stands for them
+        # the files that went by their digests, in the order of what replaces them
         self.large = [] if self.inner else large_files(self.files, lambda file: reader.data[file.place - reader.base:][:file.size])
 
     def signature(self) -> bytes:
@@ -181,7 +181,7 @@ MAX_LARGE_TEXT = 1024
 
 
 def large_of(name: bytes, text: bytes) -> Optional[Large]:
-    """The file for which one of this name and text stands, if it stands for one."""
+    """The file that one with this name and text replaces, if it replaces one."""
     found = LARGE.fullmatch(text)
     if found and found[1] == found[3] and name == found[1] + b".sha256" and is_file_name(found[1]):
         return Large(found[1], found[2].decode(), int(found[4]))

@@ -40,7 +40,7 @@ def canonical(text: bytes) -> bytes:
 
 
 def is_name(text: bytes) -> bool:
-    """Whether this is a package name: its version begins after the first dash, but for the first byte, before a digit."""
+    """Whether this is a package name: its version begins after the first dash, except for the first byte, before a digit."""
     found = re.match(rb".[^\n]*?-(?=[0-9])", text)
     return bool(found and len(text) <= 255 and NAME.fullmatch(text) and all(text[found.end():].split(b"-")))
 
@@ -68,6 +68,6 @@ def folder_name(path: bytes) -> str:
 
 
 def short_name(path: bytes) -> str:
-    """The same, shortened if there would be no room to append to it."""
+    """The name of a package's folder, shortened if there would be no room to append to it."""
     name = folder_name(path)
     return name if len(name) <= MAX_SHORT_NAME else f"{name[:200]}.{hashlib.sha256(path).hexdigest()[:16]}"

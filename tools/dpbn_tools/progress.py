@@ -7,7 +7,7 @@ from typing import Dict, Iterable, List, NamedTuple, Optional, Tuple
 
 # how many samples are kept at most, and over how many seconds the rate is measured
 MOST_SAMPLES, RATE_SECONDS = 480, 3600
-# a rate is known once so many units came to be held while somebody looked, in so many seconds
+# a rate is known once this many units came to be held while somebody looked, in this many seconds
 LEAST_UNITS, LEAST_SECONDS = 3, 10
 FORM = "%Y-%m-%dT%H:%M:%SZ"
 HOUR = 3600

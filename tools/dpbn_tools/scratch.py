@@ -13,7 +13,7 @@ SIGNALS = (signal.SIGHUP, signal.SIGINT, signal.SIGTERM)
 
 
 class Scratch:
-    """A folder beside its place, in which it is made. A second process waits for the end of the first, and then removes what is left,
+    """A folder next to its place, in which it is made. A second process waits for the end of the first, and then removes what is left,
     since nobody who is killed can."""
 
     def __init__(self, target: str, front: str) -> None:

@@ -31,7 +31,7 @@ class Ends:
 
 
 class View:
-    """One look at a bulk: what follows from it for all units, reckoned once."""
+    """One look at a bulk: what follows from it for all units, computed once."""
 
     def __init__(self, seen: bulk.Bulk, usual: Usual, now: float) -> None:
         self.bulk, self.division, self.usual, self.now = seen, seen.division, usual, now
@@ -40,7 +40,7 @@ class View:
         self.held, self.seconds = sum(self.is_held), seen.seconds()
         self.built = Counter(seen.built_by)
         self.blocks, self.blocked = seen.needs.blocked(letters, self.failed)
-        # what can't be built as things stand
+        # what can't be built as things are
         self.lost: Set[int] = {*self.failed, *self.blocked, *seen.needs.never}
         self.left = [unit for unit, is_held in enumerate(self.is_held) if not is_held and unit not in self.lost]
         self.running = [(unit, builder) for unit, builders in sorted(seen.builders.items()) for builder in builders
@@ -75,7 +75,7 @@ class Reporter:
         self.usual, self.count_of_times = Usual(self.earlier), 0
         # when each hook was run
         self.hooks: Dict[str, str] = {}
-        # what is put beside the status: by name, the end of a log
+        # what is put next to the status: by name, the end of a log
         self.copies: Dict[str, bytes] = {}
 
     def look(self, now: float) -> Object:
@@ -119,7 +119,7 @@ class Reporter:
         return STOPPED if view.is_idle() and view.now - changed >= self.rest else RUNS
 
     def estimate(self, view: View) -> Optional[Object]:
-        """When all will be built that can be, as things stand."""
+        """When all will be built that can be, as things are."""
         if not view.left:
             return None
         found: Optional[Estimate] = None

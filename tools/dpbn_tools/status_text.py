@@ -12,7 +12,7 @@ WIDTH = 80
 # how the bar shows each letter
 MARKS = {"I": "#", "B": "=", "Q": ":", "T": ".", "!": "x"}
 STATES = {"runs": "runs", "finished": "finished", "stopped": "nothing more can be built"}
-# how many of each are shown where there are many
+# how many of each are shown if there are many
 MOST_FAILURES, MOST_RUNNING, MOST_CHAIN = 40, 40, 30
 
 Object = Dict[str, Any]
@@ -92,7 +92,7 @@ def summary(status: Object) -> List[str]:
 
 
 def end_of(status: Object) -> str:
-    """When it will be over, and by what that is reckoned."""
+    """When it will be over, and by what that is computed."""
     estimate = status["estimate"]
     if status["state"] == "finished":
         return "All that isn't ignored is built."

@@ -155,7 +155,7 @@ class Unpacked:
             out.write(self.log.read_file(file))
 
     def make_whole(self, record: Record, name: bytes, digest: str) -> None:
-        """Puts a file that went by its digest in place of what stands for it, if the store has it."""
+        """Puts a file that went by its digest in place of what replaces it, if the store has it."""
         assert self.store
         target = self.places.of(record, name)
         if self.store.lay(digest, target):

@@ -51,7 +51,7 @@ class Screen:
         write(HOME + "".join(f"{line}{TO_END_OF_LINE}\n" for line in lines) + TO_END)
 
     def rest(self, seconds: float, is_ended: Callable[[], bool]) -> bool:
-        """Waits for so long, and answers whether it is to go on: until then nobody pressed q and nothing ended it."""
+        """Waits for this long, and answers whether it is to go on: until then nobody pressed q and nothing ended it."""
         until = time.monotonic() + seconds
         while not is_ended():
             left = until - time.monotonic()

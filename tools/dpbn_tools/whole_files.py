@@ -15,7 +15,7 @@ def sync(folder: str) -> None:
 
 
 def new_name(path: str) -> str:
-    """A name beside the path, for what isn't whole yet."""
+    """A name next to the path, for what isn't whole yet."""
     folder, name = os.path.split(path)
     return os.path.join(folder, f".{name[:200]}.{secrets.token_hex(4)}.new")
 

@@ -89,7 +89,7 @@ class Build:
     job, about       the job's text; the unit, the place and when it began, as JSON
     control          a FIFO that the supervisor reads as long as it runs
     status           how the command ended, by the supervisor
-    names, packages, signatures  the files that the command is told of
+    names, packages, signatures  the files whose names the command gets
     """
 
     def __init__(self, job: Job, slot: int) -> None:
@@ -137,7 +137,7 @@ class Build:
             file.write(text)
 
     def tell_names(self, names: Dict[bytes, bytes], needed: List[Record]) -> None:
-        """Writes the files that tell the packages' names: those to be made, and those that are in `deps`."""
+        """Writes the files of the packages' names: those to be made, and those that are in `deps`."""
         self.write("names", b"".join(b"%s %s\n" % pair for pair in sorted(names.items())))
         self.write("signatures", b"".join(record.signature() + b"\n" for record in sorted(needed, key=lambda record: record.path)))
 
@@ -231,7 +231,7 @@ def adopted(folder: str) -> Optional[Build]:
             about = json.loads(file.read(4096))
         with open(f"{folder}/job", "rb") as file:
             build = Build(Job(str(about["job"]), file.read()), int(about["slot"]))
-    except Exception:  # pylint: disable=broad-except
+    except Exception:
         # a folder that wasn't laid out in full has no command
         return None
     build.folder, build.began, build.state = folder, float(about["began"]), State.RUNNING

@@ -1,4 +1,4 @@
-"""What is done for one build beside the loop: its folder is laid out, what it made is handed in, or it is marked as failed."""
+"""What is done for one build next to the loop: its folder is laid out, what it made is handed in, or it is marked as failed."""
 from __future__ import annotations
 
 import argparse
@@ -117,7 +117,7 @@ class BuildSteps:
     # ---- meanwhile
 
     def free_bytes(self) -> int:
-        """How much disk is free for builds, the store and the logs: where there is least of it."""
+        """How much disk is free for builds, the store and the logs: the least of these."""
         folders = [self.work.path, self.logs.folder, *([self.store.folder] if os.path.isdir(self.store.folder) else [])]
         return min(it.f_bavail * it.f_frsize for it in map(os.statvfs, folders))
 

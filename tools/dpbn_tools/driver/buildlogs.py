@@ -41,7 +41,7 @@ class BuildLogs:
         return os.open(self.path(job), flags, 0o666)
 
     def has_failed(self, job: Job) -> str:
-        """Moves the log of a try that failed to the others that did. Returns where it is."""
+        """Moves the log of a try that failed to the others that did. Returns its place."""
         if not os.path.exists(self.path(job)):
             return self.failed_path(job) if os.path.exists(self.failed_path(job)) else self.path(job)
         shift(self.failed_path(job), self.keep)

@@ -1,4 +1,4 @@
-"""Commands that run beside the driver, each under a supervisor of its own (supervisor.py)."""
+"""Commands that run next to the driver, each under a supervisor of its own (supervisor.py)."""
 from __future__ import annotations
 
 import os

@@ -10,13 +10,13 @@ from typing import Callable, Dict, List, Optional
 
 from dpbn_tools.log import BadLog, Large
 from dpbn_tools.driver.build import Build, State, adopted, remove_folder
+from dpbn_tools.driver.build_steps import BuildSteps, Changed
 from dpbn_tools.driver.buildlogs import BuildLogs
 from dpbn_tools.driver.endings import Endings
 from dpbn_tools.driver.fetches import Fetches
 from dpbn_tools.driver.health import Health
 from dpbn_tools.driver.held import Held
 from dpbn_tools.driver.job import NAME, Job, NoJob, text_of_job
-from dpbn_tools.driver.build_steps import Changed, BuildSteps
 from dpbn_tools.driver.limits import WORDS, BadLimits, Limits
 from dpbn_tools.driver.lines import Lines
 from dpbn_tools.driver.names import Listed
@@ -28,13 +28,13 @@ from dpbn_tools.driver.tasks import Tasks
 from dpbn_tools.driver.times import Times
 from dpbn_tools.driver.workfolder import Replaced, WorkFolder
 
-# how long is waited between two looks, in seconds: for so many seconds after something went on, and else
+# how long is waited between two looks, in seconds: for this many seconds after something went on, and else
 BUSY, LONGEST_BUSY, IDLE = 0.02, 5, 0.05
 # before what the system refused is tried again, in seconds
 PATIENCE = 5
 # how often the files of a job that waits are looked at, and the free disk, in seconds
 FILES_EACH, POLL_EACH, FREE_EACH = 0.2, 1, 1
-# how long a build that was asked to end may take beyond its grace before that is told, in seconds
+# how long a build that was asked to end may take beyond its grace before that is reported, in seconds
 LONGEST_END = 5
 # how long a build of an earlier run is kept that nobody asks for, in seconds
 UNASKED = 60
@@ -52,6 +52,8 @@ class Driver:
         self.work = WorkFolder(work)
         self.logs = BuildLogs(os.path.realpath(asked.logs or f"{work}/logs"), asked.keep_logs)
         self.store = Store(os.path.realpath(asked.store or f"{work}/store"), self.work.token(), self.tasks, lines.tell)
+        # others may bring files there before this host has any
+        os.makedirs(self.store.folder, exist_ok=True)
         self.held = Held(asked.log)
         self.listed = Listed(asked.listing) if asked.listing else None
         self.limits = Limits({word: getattr(asked, word.replace("-", "_")) for word in WORDS}, asked.limits)
@@ -95,7 +97,7 @@ class Driver:
     # ---- one look
 
     def look(self) -> None:
-        """What is there, what is over, and what may begin. What the system refuses is told, and tried again in a while."""
+        """What is there, what is over, and what may begin. What the system refuses is reported, and tried again in a while."""
         self.guarded("lock", self.work.check)
         self.tasks.look()
         self.guarded("log", self.look_at_log)
@@ -116,11 +118,9 @@ class Driver:
             return
         try:
             step()
-        except Replaced:
+        except (Replaced, BadLog):
             raise
-        except BadLog:
-            raise
-        except Exception as error:  # pylint: disable=broad-except
+        except Exception as error:
             self.due[name] = time.monotonic() + PATIENCE
             text = str(error) if isinstance(error, (OSError, BadLimits)) else f"{type(error).__name__}: {error}"
             self.lines.tell_once(f"? it goes on in a while: {text}", (name, type(error), getattr(error, "errno", None)))
@@ -132,9 +132,9 @@ class Driver:
             numbers += [number for number in self.reports() if number >= 0]
         woken, _, _ = select.select(numbers, [], [], BUSY if time.monotonic() < self.busy_until else IDLE)
         if woken or self.tasks.running:
-            self.is_busy()
+            self.stay_awake()
 
-    def is_busy(self) -> None:
+    def stay_awake(self) -> None:
         """Something goes on, so that more may in a moment."""
         self.busy_until = time.monotonic() + LONGEST_BUSY
 
@@ -167,7 +167,7 @@ class Driver:
         came = [posted for posted in map(self.taken, names - set(self.jobs)) if posted]
         for posted in sorted(came, key=lambda it: it[0]):
             self.jobs[posted[1].job.name] = posted[1]
-            self.is_busy()
+            self.stay_awake()
         for name, posted_job in list(self.jobs.items()):
             if posted_job.job.unit in self.held.units:
                 self.drop(name, "another node built it")
@@ -373,7 +373,7 @@ class Driver:
         self.tasks.start(lambda: self.steps.look_for_earlier(build, needed), found)
 
     def begin(self, posted: Posted) -> None:
-        """Begins a build: its folder is laid out beside the loop."""
+        """Begins a build: its folder is laid out next to the loop."""
         taken = {build.slot for build in self.builds if build.holds_place()}
         slot = next(number for number in range(len(taken) + 1) if number not in taken)
         build = Build(posted.job, slot)
@@ -445,7 +445,7 @@ class Driver:
         self.lines.tell(self.endings.counted())
 
     def is_wanted(self, build: Build) -> bool:
-        """Whether the driver's end waits for this build. That one failed isn't told now: what ended it may be ending the host."""
+        """Whether the driver's end waits for this build. That one failed isn't reported now: what ended it may be ending the host."""
         if build.state is State.OVER and not build.is_busy and self.endings.is_failure(build):
             build.dropped = build.dropped or "this driver ends"
         return build.state is not State.GONE or build.is_busy

@@ -16,7 +16,7 @@ from dpbn_tools.driver.reuse import Reuse
 from dpbn_tools.driver.tasks import Tasks
 from dpbn_tools.driver.times import Times
 
-# how long a build that failed isn't told, in seconds: what ended it may be about to end this program, too, as when a host stops
+# how long a build that failed isn't reported, in seconds: what ended it may be about to end this program, too, as when a host stops
 MOMENT = 1
 # before what the system refused is tried again, in seconds
 PATIENCE = 5
@@ -24,7 +24,7 @@ ENDS = "this driver ends"
 
 
 class Endings:
-    """The steps from a command's end to the end of its folder. Each that takes long is done beside the loop, one at a time for a build."""
+    """The steps from a command's end to the end of its folder. Each that takes long is done next to the loop, one at a time for a build."""
 
     def __init__(self, steps: BuildSteps, tasks: Tasks, limits: Limits, health: Health, times: Times, reuse: Optional[Reuse],
                  pushes: Optional[Pushes]) -> None:
@@ -103,7 +103,7 @@ class Endings:
             build.due = time.monotonic() + 0.1
 
     def step(self, build: Build, work: Callable[[], None], then: Callable[[], None]) -> None:
-        """Does a step beside the loop. What the system refuses is told, and tried again in a while."""
+        """Does a step next to the loop. What the system refuses is reported, and tried again in a while."""
         build.is_busy = True
 
         def over(_: None, error: Optional[Exception]) -> None:
@@ -133,6 +133,9 @@ class Endings:
 
     def handed_in(self, build: Build) -> None:
         unit = str(build.job)
+        if build.dropped:
+            # its job went meanwhile, and with it what has its name
+            self.steps.work.remove(f"done/{build.job.name}")
         if build.is_reused:
             self.counts["taken from earlier runs"] += 1
             self.lines.tell(f"< {unit} {time.monotonic() - build.over:.0f} s, from an earlier run")
@@ -157,6 +160,8 @@ class Endings:
         where: List[str] = []
 
         def marked() -> None:
+            if build.dropped:
+                self.steps.work.remove(f"failed/{build.job.name}")
             self.counts["failed"] += 1
             self.health.unit_ended(str(build.job), False)
             self.lines.tell(f"! {build.job} failed after {build.seconds():.0f} s: {build.failed}, see {where[-1]}")
@@ -165,7 +170,7 @@ class Endings:
         self.step(build, lambda: where.append(self.steps.mark(build, self.limits)), marked)
 
     def leave(self, build: Build, first: Callable[[Build], None] = lambda _: None) -> None:
-        """Removes the build's folder, beside the loop."""
+        """Removes the build's folder, next to the loop."""
         build.state, build.is_busy = State.GONE, True
 
         def gone(_: None, error: Optional[Exception]) -> None:

@@ -13,7 +13,7 @@ from dpbn_tools.driver.store import Store, digest_of
 from dpbn_tools.driver.tasks import Tasks
 from dpbn_tools.driver.transfers import Hosts
 
-# after so many seconds another host is asked for a file, too
+# after this many seconds another host is asked for a file, too
 LONG = 20
 # how many hosts are asked for one file at a time
 MAX_ASKED = 2
@@ -30,7 +30,7 @@ class Fetch:
 
 
 class Wanted:
-    """A file that is wanted, and who may have it."""
+    """A file that is needed, and the hosts that may have it."""
 
     def __init__(self, large: Large, hosts: List[int]) -> None:
         self.large, self.hosts = large, hosts
@@ -40,7 +40,7 @@ class Wanted:
 
 
 class Fetches:
-    """The files that are wanted, and the commands that get them."""
+    """The files that are needed, and the commands that fetch them."""
 
     def __init__(self, store: Store, command: Optional[str], log: Callable[[], str], tasks: Tasks, tell: Callable[[str], None]) -> None:
         self.store, self.command, self.log, self.tasks, self.tell = store, command, log, tasks, tell
@@ -80,7 +80,7 @@ class Fetches:
         remove(fetch.target)
 
     def look(self) -> None:
-        """Takes what came, and asks for what is wanted."""
+        """Takes what arrived, and asks for what is needed."""
         for wanted in list(self.wanted.values()):
             for fetch in wanted.fetches:
                 if not fetch.is_checked and fetch.command.poll():

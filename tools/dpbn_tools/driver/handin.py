@@ -12,7 +12,7 @@ from dpbn_tools.driver.build import Build
 from dpbn_tools.driver.names import BadNames, read_pairs
 from dpbn_tools.driver.store import Store
 
-# files beside the folders of packages
+# files next to the folders of packages
 NAMES, BEFORE, AFTER = "NAMES", "SEEN-BEFORE", "SEEN-AFTER"
 # the most bytes of one of them
 MAX_SEEN = 16_777_216
@@ -69,7 +69,7 @@ def check_seen(build: Build, needed: List[Record]) -> None:
 
 
 def read_seen(path: str, name: str) -> Dict[bytes, Set[bytes]]:
-    """The names of what was installed, each with the digests that stand beside it."""
+    """The names of what was installed, each with the digests that are next to it."""
     seen: Dict[bytes, Set[bytes]] = {}
     try:
         with opened(path) as file:

@@ -11,7 +11,7 @@ from dpbn_tools.driver.workfolder import WorkFolder
 
 # the status that says so: EX_TEMPFAIL of sysexits(3)
 TEMPFAIL = 75
-# after so many such ends in a row, of different units, the host is away; so many in a row of one unit are its failure
+# after this many such ends in a row, of different units, the host is away; this many in a row of one unit are its failure
 AWAY_AFTER, FAILURE_AFTER = 3, 5
 # the first and the longest wait, in seconds, and how long the command that asks whether the host is ready may take
 MINUTE, LONGEST = 60, 1800

@@ -48,7 +48,7 @@ class Limits:
         return it.st_mtime_ns, it.st_size
 
     def look(self) -> None:
-        """Reads the file again if it was changed. One that can't be read any more leaves the limits as they are, and is told."""
+        """Reads the file again if it was changed. One that can't be read any more leaves the limits as they are, and is reported."""
         touched = self.touched()
         if touched != self.seen:
             self.seen = touched

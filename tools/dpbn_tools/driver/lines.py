@@ -11,7 +11,7 @@ from typing import Deque, Dict, Hashable, List, Optional, Tuple
 
 # how many lines may wait for a reader; those that come then are lost, and counted
 MAX_WAITING = 10_000
-# a trouble that goes on is told again after so many seconds; one that wasn't seen for so many seconds is over, and told when it comes back
+# a trouble that goes on is reported again after this many seconds; one that wasn't seen for this many seconds is over, and reported when it comes back
 AGAIN, OVER = 3600, 60
 
 

@@ -17,7 +17,7 @@ from dpbn_tools.driver.workfolder import OWN, sync
 
 # how often a file that isn't there is looked for, in seconds, and how many files are hashed at a time
 LOOK_AGAIN, MAX_CHECKS = 1, 2
-# a file that isn't whole is removed when nobody has written to it for so long, in seconds
+# a file that isn't whole is removed when nobody has written to it for this long, in seconds
 ABANDONED = 3600
 
 Touched = Tuple[int, int, int]
@@ -78,7 +78,7 @@ class Store:
     # ---- what is there
 
     def state(self, large: Large) -> State:
-        """Whether the file is there. It is hashed when it is first seen, and whenever it was touched since; that is done beside the
+        """Whether the file is there. It is hashed when it is first seen, and whenever it was touched since; that is done next to the
         loop."""
         known, until = self.states.get(large.digest, (State.MISSING, 0.0))
         if known is State.CHECKING or known is State.MISSING and time.monotonic() < until:
@@ -193,7 +193,7 @@ class Store:
     # ---- what is taken
 
     def lay(self, large: Large, folder: str) -> bool:
-        """Puts the file into a package's folder, in place of what stands for it. Returns whether it had to be copied."""
+        """Puts the file into a package's folder, in place of what replaces it. Returns whether it had to be copied."""
         source, target = self.path(large.digest), f"{folder}/{large.name.decode()}"
         is_copied = False
         try:

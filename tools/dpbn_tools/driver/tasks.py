@@ -1,4 +1,4 @@
-"""Work that takes long, in threads beside the driver's loop: hashing, copying, laying out and removing folders."""
+"""Work that takes long, in threads next to the driver's loop: hashing, copying, laying out and removing folders."""
 from __future__ import annotations
 
 import collections
@@ -32,7 +32,7 @@ class Tasks:
         failure: Optional[Exception] = None
         try:
             result = work()
-        except Exception as error:  # pylint: disable=broad-except
+        except Exception as error:
             failure = error
         self.over.append((then, result, failure))
         self.wake()

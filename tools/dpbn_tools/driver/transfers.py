@@ -6,7 +6,7 @@ from typing import Dict, List, Tuple
 
 # how many commands run at a time for one host, and the least and the greatest wait after a failure, in seconds
 MAX_PER_HOST, FIRST_WAIT, LONGEST_WAIT = 2, 5, 600
-# after so many failures in a row a host is taken to be down: one command at a time then
+# after this many failures in a row a host is taken to be down: one command at a time then
 DOWN = 3
 
 

@@ -75,7 +75,7 @@ class Names:
 
 
 class WorkFolder:
-    """The folder's files, its lock, and the files by which the node is told of this host."""
+    """The folder's files, its lock, and the files that report on this host to the node."""
 
     def __init__(self, path: str) -> None:
         self.path = path
@@ -133,7 +133,7 @@ class WorkFolder:
             raise Replaced
 
     def token(self) -> str:
-        """What tells this folder's files in a store from those of others, also if their hosts have one name."""
+        """What distinguishes this folder's files in a store from those of others, also if their hosts have one name."""
         path = f"{self.path}/id"
         with contextlib.suppress(FileNotFoundError):
             with open(path, encoding="ascii") as file:
