@@ -28,6 +28,8 @@ NAMES = ("oak", "elm", "fir")
 LIMIT = 180
 TOOLS = ("build-jobs", "dpbn-host", "dpbn-hosts", "dpbn-report", "make-listing", "order-listing", "unpack-log", "why-ignored")
 
+# each large file is at two hosts before its build is handed in
+TWO_COPIES = "--digests 100 --copies 2"
 LISTING = """a/b.FULLPKGNAME=b-1.0
 a/c,-main.FULLPKGNAME=c-1.0
 a/c,-main.LIB_DEPENDS=a/b
@@ -104,11 +106,11 @@ class Bulk:
     def addresses(self):
         return [f"127.0.0.1:{self.ports + number}" for number in range(3)]
 
-    def write(self, name="june", folder="june", jobs=2, weights=(1, 1, 1), more="", node="--takeover 20 --rest 4"):
+    def write(self, name="june", folder="june", jobs=2, weights=(1, 1, 1), more="", node="--takeover 20 --rest 4", driver="--digests 100"):
         """Writes a file of the three hosts."""
         lines = [f"host {it} {address} jobs={jobs}" + (f" weight={weight}" if weight > 1 else "")
                  for it, address, weight in zip(NAMES, self.addresses(), weights)]
-        text = [f"dir {folder}", "listing listing", "build build-port", f"node {node} --progress 1", "driver --digests 100", more, *lines, ""]
+        text = [f"dir {folder}", "listing listing", "build build-port", f"node {node} --progress 1", f"driver {driver}", more, *lines, ""]
         put(f"{self.folder}/{name}", "\n".join(text))
 
     def environment(self):
@@ -340,7 +342,7 @@ def rested(tally, bulk):
     """Stopped, and started again with another file, the nodes come to rest as all is held, and nothing runs any more."""
     out, error, status = bulk.call("june", "stop")
     check(tally, "stop", (out.count("  stopped  "), error, status) == (3, "", 0), out, error, status)
-    bulk.write(node="--rest 2")
+    bulk.write(node="--rest 2", driver=TWO_COPIES)
     bulk.call("june", "start")
     rests = until(lambda: all(line.startswith("at rest, holds all that isn't ignored") for line in bulk.lines().values()))
     left = until(lambda: not any(bulk.holder(name, part) for name in NAMES for part in ("keeper", "driver", "node")))
@@ -374,12 +376,10 @@ def collected(tally, bulk):
     check(tally, "collect, the large files", len(digests) == 6, digests)
     shutil.rmtree(f"{bulk.folder}/june.d/store")
     copies = {digest: [bulk.home(name, f"june/store/{digest}") for name in NAMES if os.path.exists(bulk.home(name, f"june/store/{digest}"))] for digest in digests}
-    # one has a copy at another host; the other one has none any more
+    check(tally, "two copies of each large file", min(map(len, copies.values())) >= 2, copies)
+    # one is wrong at a host; the other one is wrong at all
     twice, once = digests[:2]
-    first, other = copies[twice][0], next(bulk.home(name, f"june/store/{twice}") for name in NAMES if bulk.home(name) not in copies[twice][0])
-    os.makedirs(os.path.dirname(other), exist_ok=True)
-    shutil.copy(first, other)
-    for path in (first, *copies[once]):
+    for path in (copies[twice][0], *copies[once]):
         os.chmod(path, 0o644)
         with open(path, "r+b") as file:
             file.write(b"X")
@@ -406,7 +406,7 @@ def three_hosts(tally):
     """A run from start to packages, with crashes, a host that drains, and a build that fails."""
     with laid(dpbn=PLAYED or NODES) as bulk:
         put(f"{bulk.folder}/broken:a:e", "")
-        bulk.write(node="--rest 1000")
+        bulk.write(node="--rest 1000", driver=TWO_COPIES)
         for part in (started, crashed, drained, failed, rested, collected, reported):
             tally.run(f"three hosts, {part.__name__}", part, bulk)
 
