@@ -1156,8 +1156,9 @@ def faults(tally):
         unkeyed = {word: it for word, it in good.items() if word not in ("--hosts", "--key")}
         ordered(tally, folder, "build", {**unkeyed, "--base": str(base), "--dir": "bad-logs"}, (("1004", {}),))
         words = ["build", *(it for pair in good.items() for it in pair)]
-        for more, fault in (([], 1209), (["--continue"], 1209), (["--continue"], 1008)):
-            if fault == 1008 or not more:
+        # the second finds the empty log that the first made
+        for is_laid, more, fault in ((True, [], 1209), (False, ["--continue"], 1008), (True, ["--continue"], 1008)):
+            if is_laid:
                 nodes.lay_logs(folder)
             tally.add(f"dpbn {' '.join([*words, *more])}", difference(answer([*words, *more], folder), refused(fault)))
             written = {name: text for name, text in logs_in(folder).items() if text}
