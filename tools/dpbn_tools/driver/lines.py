@@ -11,7 +11,8 @@ from typing import Deque, Dict, Hashable, List, Optional, Tuple
 
 # how many lines may wait for a reader; those that come then are lost, and counted
 MAX_WAITING = 10_000
-# a trouble that goes on is reported again after this many seconds; one that wasn't seen for this many seconds is over, and reported when it comes back
+# a trouble that goes on is reported again after AGAIN seconds; one that wasn't seen for OVER seconds is over, and is reported when
+# it comes back
 AGAIN, OVER = 3600, 60
 
 
