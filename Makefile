@@ -47,6 +47,7 @@ bench: all
 	-bench/way
 	-bench/nodes
 	-bench/live
+	-bench/bulk
 	-bench/link
 	-bench/seals
 
