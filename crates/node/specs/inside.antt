@@ -1,4 +1,4 @@
 -- What only bodies and proofs need.
 pub mod Opening
-pub mod PreparedStep
+pub mod Ready
 pub mod Stepping
