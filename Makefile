@@ -35,6 +35,7 @@ bench: all
 	./dpbn node --help 2>/dev/null; [ $$? -eq 2 ]
 	-bench/nodes
 	-bench/live
+	-bench/bulk
 	-bench/link
 	-bench/seals
 
