@@ -1,4 +1,4 @@
 -- What only bodies and proofs need.
 pub mod Opening
-pub mod Ready
+pub mod Prepared
 pub mod Stepping

@@ -40,7 +40,7 @@ pub struct PreparedStep {
 
 impl Model for PreparedStep {
     ghost use Rattle.node.specs.Step.{ReadyStep};
-    ghost use Rattle.node.specs.inside.Ready.{IsWritten, ready_by};
+    ghost use Rattle.node.specs.inside.Prepared.{IsWritten, ready_by};
 
     ghost Value = { ReadyStep };
 

@@ -1,9 +1,9 @@
 -- Each kind of event is an act or none, and what it leaves of nodes.
 pub mod BuildActs
 pub mod DeliveryActs
-mod EventActs
+pub mod EventActs
 pub mod InputActs
-mod LocalFacts
+pub mod LocalFacts
 mod MembersLeft
 pub mod StepActs
 pub mod StopsInDeliveries

@@ -1,5 +1,5 @@
 -- Each event has one answer, and logs that are lost matter to nobody.
-mod HappensOrRefused
-mod LostLogs
+pub mod HappensOrRefused
+pub mod LostLogs
 mod LostNodes
-mod OneNextWorld
+pub mod OneNextWorld

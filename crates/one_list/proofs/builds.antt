@@ -1,9 +1,9 @@
 -- What builds and the list have.
-mod AuditOfList
+pub mod AuditOfList
 pub mod BuildableBuilds
-mod Decisions
+pub mod Decisions
 pub mod HeldPackages
-mod ListRecords
-mod ListedBuilds
-mod SomeList
-mod UnitRecords
+pub mod ListRecords
+pub mod ListedBuilds
+pub mod SomeList
+pub mod UnitRecords

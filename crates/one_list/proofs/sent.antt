@@ -1,7 +1,7 @@
 -- What was sent, and by whom.
 pub mod ArrivedMessages
 pub mod MessageHeaders
-mod MonotoneNeeds
+pub mod MonotoneNeeds
 pub mod NothingForeign
 pub mod SentMessages
 pub mod VoteTexts
