@@ -6,8 +6,7 @@ MANDIR ?=	$(PREFIX)/man
 TOOLS =		expand-listing why-ignored unpack-log make-builds build-jobs
 
 all:
-	./dpbr status /dev/null /dev/null >/dev/null
-	./dpbn node --help 2>/dev/null; [ $$? -eq 2 ]
+	tools/build dpbr dpbn
 
 check:
 	tests/run
@@ -32,7 +31,6 @@ bench: all
 	-bench/node
 	-bench/traces
 	-bench/way
-	./dpbn node --help 2>/dev/null; [ $$? -eq 2 ]
 	-bench/nodes
 	-bench/live
 	-bench/bulk

@@ -95,7 +95,7 @@ def copy_crate(crate, to):
 def copy(crates, folder):
     """Makes a repository of these crates in the folder, with neither what was made of them nor their wrong bodies."""
     known = {**lines(), **lines_beside()}
-    os.mkdir(f"{folder}/.git")
+    os.makedirs(f"{folder}/.git")
     shutil.copy(f"{TOP}/HANDLES", folder)
     with open(f"{folder}/crates.txt", "w") as file:
         file.writelines(f"{known[crate]}\n" for crate in crates)

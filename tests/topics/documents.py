@@ -15,8 +15,8 @@ import tried
 
 # How much the gate may have to do: the most crates of crates.txt, the most ways through it, and the most wrong bodies that it tries.
 # A way leads from a crate down to one that it stands on, from name to name in the lines of crates.txt; each crate is one to itself.
-MOST_CRATES = 70
-MOST_WAYS = 500_000
+MOST_CRATES = 56
+MOST_WAYS = 90_000
 MOST_WRONG_BODIES = 130
 WIDEST = 100
 # the most columns of a line of a document
@@ -169,15 +169,53 @@ def stands(crate, kind, name):
     return any(os.path.exists(f"{TOP}/crates/{crate}/{kind}/{it}") for it in (name, f"{name}.antt"))
 
 
+def mods(path):
+    """The modules that a file names, and of each whether it is public; nothing where there is no such file."""
+    lines = contents(path).decode() if os.path.exists(path) else ""
+    return [(name, bool(pub)) for pub, name in re.findall(r"^(pub )?mod (\w+)$", lines, re.MULTILINE)]
+
+
+def lemmas_of(crate):
+    """The files of lemmas of a crate, by their modules, and whether crates above may cite them: those that `proofs/Lib.antt` names, or the
+    file of a folder that it names."""
+    top, found = f"{TOP}/crates/{crate}/proofs", {}
+    for name, is_public in mods(f"{top}/Lib.antt"):
+        inside = mods(f"{top}/{name}.antt") if os.path.isdir(f"{top}/{name}") else []
+        found.update({f"{name}.{it}": is_public and is_open for it, is_open in inside} or {name: is_public})
+    return found
+
+
+def public_modules(crate):
+    """The files of lemmas and folders of them that are public where they are named."""
+    top = f"{TOP}/crates/{crate}/proofs"
+    folders = {name for name, _ in mods(f"{top}/Lib.antt") if os.path.isdir(f"{top}/{name}")}
+    inside = {f"{folder}.{it}" for folder in folders for it, is_public in mods(f"{top}/{folder}.antt") if is_public}
+    return {name for name, is_public in mods(f"{top}/Lib.antt") if is_public} | inside
+
+
+def cited_across_folders(crate):
+    """What stands in a folder of lemmas and is cited from files of the crate elsewhere."""
+    top, lemmas, found = f"{TOP}/crates/{crate}", lemmas_of(crate), set()
+    for path in glob.glob(f"{top}/**/*", recursive=True):
+        if path.endswith((".rt", ".antt")) and "/out/" not in path:
+            named = set(re.findall(rf"\bRattle\.{crate}\.proofs\.(\w+\.\w+)", contents(path).decode()))
+            found |= {it for it in named if it in lemmas and not path.startswith(f"{top}/proofs/{it.partition('.')[0]}/")}
+    return found
+
+
+def text_of_lemmas(crate, module):
+    return contents(f"{TOP}/crates/{crate}/proofs/{module.replace('.', '/')}.antt").decode()
+
+
 def proofs_of_the_headline(tally):
-    """docs/HEADLINE.md has each file of proofs of crate `world` in one place of its list, behind those that it builds on."""
-    folder = f"{TOP}/crates/world/proofs"
+    """docs/HEADLINE.md has each file of proofs of crate `one_list` in one place of its list, after those that it builds on. They stand in
+    folders, which `proofs/Lib.antt` names."""
+    files = {module.split(".")[-1]: module for module in lemmas_of("one_list")}
     rows = re.findall(r"^- [^:`]*: (`.*)$", part("HEADLINE.md", "Where its proofs stand"), re.MULTILINE)
     named = [it for row in rows for it in re.findall(r"`(\w+)`", row)]
-    standing = sorted(it[:-5] for it in os.listdir(folder) if it.endswith(".antt") and it != "Lib.antt")
-    tally.add("docs/HEADLINE.md, its proofs", "" if sorted(named) == standing else f"{sorted(set(named) ^ set(standing))} are named or stand, or some are named twice")
-    early = [f"{name} before {it}" for name in set(named) & set(standing)
-             for it in set(re.findall(r"Rattle\.world\.proofs\.(\w+)", contents(f"{folder}/{name}.antt").decode())) & set(named) if named.index(it) > named.index(name)]
+    tally.add("docs/HEADLINE.md, its proofs", "" if sorted(named) == sorted(files) else f"{sorted(set(named) ^ set(files))} are named or stand, or some are named twice")
+    early = [f"{name} before {it}" for name in set(named) & set(files)
+             for it in set(re.findall(r"Rattle\.one_list\.proofs\.\w+\.(\w+)", text_of_lemmas("one_list", files[name]))) & set(named) if named.index(it) > named.index(name)]
     tally.add("docs/HEADLINE.md, the order of its proofs", ", ".join(sorted(early)))
 
 
@@ -265,7 +303,7 @@ def cited(crate, where=f"{TOP}/crates"):
     """What files of a crate cite of other crates' proofs and of their definitions for bodies: the file, the crate, and the module there."""
     for path in glob.glob(f"{where}/{crate}/**/*", recursive=True):
         if path.endswith((".rt", ".antt", ".rs", ".proof")) and "/out/" not in path:
-            for other, module in set(re.findall(r"\bRattle\.(\w+)\.(proofs\.\w+|specs\.inside)\b", contents(path).decode())):
+            for other, module in set(re.findall(r"\bRattle\.(\w+)\.(proofs(?:\.\w+)+|specs\.inside)\b", contents(path).decode())):
                 if other != crate:
                     yield path, other, module
 
@@ -280,12 +318,13 @@ def leaning(tally):
     tally.add("specs/inside", f"{inside} cite what stands there in another crate" if inside else "")
     files = public = 0
     for crate in named:
-        path = f"{TOP}/crates/{crate}/proofs/Lib.antt"
-        mods = re.findall(r"^(pub )?mod (\w+)$", contents(path).decode(), re.MULTILINE) if os.path.exists(path) else []
-        open_to_all = {mod for pub, mod in mods if pub}
-        wanted = {module.removeprefix("proofs.") for *_, other, module in [*found, *by_drivers] if other == crate and module != "specs.inside"}
-        files, public = files + len(mods), public + len(open_to_all)
-        tally.add(f"crates/{crate}/proofs/Lib.antt", f"{sorted(open_to_all ^ wanted)} are public and cited by no other crate" if open_to_all != wanted else "")
+        lemmas = lemmas_of(crate)
+        files, public = files + len(lemmas), public + sum(lemmas.values())
+        by_others = {module.removeprefix("proofs.") for *_, other, module in [*found, *by_drivers] if other == crate and module != "specs.inside"}
+        # a folder is public that has something for other crates, and in it what they or other folders cite
+        wanted = by_others | {module.partition(".")[0] for module in by_others} | cited_across_folders(crate)
+        strange = sorted(public_modules(crate) ^ wanted)
+        tally.add(f"crates/{crate}/proofs/Lib.antt", f"{strange} are public and cited by no other, or the other way round" if strange else "")
     pairs = {(crate, other) for crate, _, other, module in found if module != "specs.inside"}
     counts = public, files, len(pairs), sum(map(len, named.values()))
     told = re.search(r"(\d+)\s+of\s+the\s+(\d+)\s+files\s+of\s+lemmas.*?(\d+)\s+of\s+the\s+(\d+)\s+pairs\s+of\s+crates", contents(f"{TOP}/docs/MAP.md").decode(), re.DOTALL)

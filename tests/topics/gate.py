@@ -48,7 +48,7 @@ def judged():
 def note_built(began, last_lines):
     """Notes that the programs are those of the sources of then, so that ./dpbr and ./dpbn need not build them again, and what was told."""
     os.makedirs(BUILT, exist_ok=True)
-    for program in ("dpbr", "dpbn"):
+    for program in ("dpbr_quick", "dpbr", "dpbn"):
         open(f"{BUILT}/{program}", "w").close()
         os.utime(f"{BUILT}/{program}", (began, began))
     with open(f"{BUILT}/gate", "w") as file:

@@ -1123,7 +1123,7 @@ def run(tally):
     beside(tally, (answers, rests_behind_all_jobs, taken_away, killed_while_it_builds, one_folder, overtaken, left_to_another, other_runs,
                    beside_nodes, quiet, unanswered, voted_by_nobody, no_majority, long_run, manual_page, readme))
     if not shutil.which("bmake"):
-        print("tests/run: no bmake here: nothing is built of Makefiles", flush=True)
+        tally.skip("what is built of Makefiles", "there is no bmake here")
         return
     three_hosts(tally)
     kills(tally)

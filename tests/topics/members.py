@@ -1,7 +1,7 @@
 """Members, nodes and worlds whose memory runs out: each allocation refused in turn of what `probes` answers to the files of
 tests/members/ and to some stored traces. Where that falls into a step, the program gives the same input again, and has to go on as
 if nothing had been. That needs the program as it is built: `tools/prove probes` builds it, for who changes crate `member`, `node` or
-`running`, or one below them; without it this topic is skipped."""
+`simulator`, or one below them; without it this topic is skipped."""
 import os
 import subprocess
 import tempfile

@@ -6,6 +6,7 @@ import subprocess
 import tempfile
 import time
 
+from topics import started
 from topics.tally import EXAMPLES, PROGRAM, TESTS, TOP, answer, contents, difference, text_difference
 
 # The folders of stored cases of `dpbr status` and `dpbr audit`, and of those that the manual page shows.
@@ -287,6 +288,7 @@ def wrapper(tally):
 
 def run(tally):
     wrapper(tally)
+    tally.run("how programs start", started.run)
     stored_cases(tally, STORED)
     manual_page(tally)
     examples(tally)

@@ -1,0 +1,3 @@
+pub mod Others
+pub mod Printed
+pub mod Stopped
