@@ -1,5 +1,5 @@
-//! What `dpbn build` does: one member's node runs on its log, hears its peers over UDP, and has
-//! what it claims built by whoever looks into the work folder. It passes on what `dpbn node` does.
+//! The command `dpbn build`: one member's node runs on its log, talks to its peers over UDP, and has
+//! what it claims built by a builder that watches the work folder. `dpbn node` is passed on.
 #![tactic(auto)]
 
 mod answering;

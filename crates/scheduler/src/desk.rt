@@ -30,19 +30,19 @@ use turn_rules::Wish;
 /// How often it is looked at what is away, in milliseconds.
 const LOOK: u64 = 200;
 
-/// What is known here of builds. Of a unit that is held, the job and what came of it are taken out
-/// of the folder by whoever builds there, and not by a desk.
+/// What is known about builds. The builder, and not the desk, removes the job and the result of a
+/// unit that is held.
 #[derive(Drop)]
 pub struct Desk<'f> {
     folder: Folder<'f>,
     pace: Pace,
-    /// Handed out, and neither failed nor held.
+    /// The jobs that are handed out, and neither failed nor held.
     out: Vec<Posted>,
-    /// What failed here: by unit, the name of its job.
+    /// The builds that failed here: by unit, the name of its job.
     failed: IndexMap<u32, Name>,
     /// The units for which the others were asked.
     asked: IndexSet<u32>,
-    /// The position behind that of the last question.
+    /// The position after that of the last question.
     next: u32,
     /// The unit of the last question.
     last: Option<u32>,
@@ -87,7 +87,7 @@ impl<'f> Desk<'f> {
         self.out.is_empty()
     }
 
-    /// Whether the unit that was asked for last came to be held.
+    /// Whether the unit of the last question is held now.
     pub fn is_hit(&self, member: &Member<'_>) -> bool
         ensures { result ≡ is_held_any member.now self.now.last }
     {
@@ -97,8 +97,8 @@ impl<'f> Desk<'f> {
         }
     }
 
-    /// Whether something is built here: a job is out that has no answer, and whose unit's claim
-    /// isn't the open one. What the system refuses to tell counts as no answer.
+    /// Whether something is being built here: a job is out that has no answer, and its unit's claim
+    /// isn't the open one. If the system refuses to say, the job counts as one without an answer.
     pub fn is_building(&self, rt: &HostRuntime, member: &Member<'_>) -> bool
         ensures { result ≡ true
             → Any (λ p. is_for member.now.claim p.unit ≡ false) self.now.out.items }
@@ -155,7 +155,7 @@ impl<'f> Desk<'f> {
     ///
     /// # Errors
     ///
-    /// Memory; what the system refused. Nothing is forgotten then.
+    /// Memory; what the system refused. Then nothing is forgotten.
     pub fn retry(&mut self, rt: &HostRuntime) -> Result<(), WorkFault>
         ensures failed { AreLeft (get nat_eq self.old.failed) (get nat_eq self.new.failed) }
         ensures rest { IsSameButFailed self.old self.new }
@@ -169,7 +169,7 @@ impl<'f> Desk<'f> {
         Ok(())
     }
 
-    /// The units of which a build failed whose mark is gone.
+    /// The units of failed builds whose marks are gone.
     fn unmarked(&self, rt: &HostRuntime) -> Result<Vec<u32>, WorkFault>
         ensures { IfErr result IsOfSystem }
     {

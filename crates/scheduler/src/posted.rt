@@ -9,7 +9,7 @@ use faults::Memory;
 use job_folder::Name;
 use member::Member;
 
-/// What is to be built, by its unit and by its name.
+/// A job that is out: its unit and its name.
 #[derive(Drop)]
 pub(crate) struct Posted {
     pub unit: u32,
@@ -39,7 +39,7 @@ pub(crate) fn push(all: &mut Vec<Posted>, posted: Posted) -> Result<(), Memory>
     Ok(())
 }
 
-/// Leaves those whose units are not held.
+/// Keeps those whose units are not held.
 pub(crate) fn forget_held(all: &mut Vec<Posted>, member: &Member<'_>)
     ensures { all.new.items ≡ not_held member.now all.old.items }
 {

@@ -1,4 +1,4 @@
-//! What there is of the build for which a job of the node waits, and jobs that are handed out.
+//! The state of the build for the node's job, and how jobs are handed out.
 ghost use Rattle.std.specs.Prelude.{◌≡◌, IfErr, IfOk, None, Ok, OnErr, OnOk};
 ghost use Rattle.scheduler.specs.Keeping.{IsSameButOut};
 ghost use Rattle.scheduler.specs.Looking.{IsLook, out_with_job, unit_of_job};
@@ -41,8 +41,7 @@ impl Desk<'_> {
         self.looked_for(rt, member.tree_digest(), job, unit)
     }
 
-    /// What there is of the build of the job, which is for the unit, by the digest of what is
-    /// listed.
+    /// The state of the build for this job of the unit, in the tree with this digest.
     fn looked_for(
         &mut self,
         rt: &HostRuntime,
@@ -65,8 +64,8 @@ impl Desk<'_> {
         Ok(look)
     }
 
-    /// Hands out the job of the unit, if that is not out: a new one is posted, and so is one whose
-    /// file is gone.
+    /// Hands out the unit's job if it isn't out. A new job is posted, and so is one whose file is
+    /// gone.
     fn hand_out(
         &mut self,
         rt: &HostRuntime,
@@ -92,8 +91,8 @@ impl Desk<'_> {
         Ok(())
     }
 
-    /// Whether the job of this name is posted. What the system refuses to tell counts as that it is
-    /// not.
+    /// Whether the job of this name is posted. If the system refuses to say, it counts as not
+    /// posted.
     fn is_posted(&self, rt: &HostRuntime, name: &Name) -> bool {
         matches!(self.folder.is_posted(rt, name), Ok(true))
     }

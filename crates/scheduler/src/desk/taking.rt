@@ -1,4 +1,4 @@
-//! What a desk keeps of what its node did.
+//! How a desk follows its node's steps.
 ghost use Rattle.std.specs.Prelude.{◌≡◌, IfErr, OnErr, OnOk};
 ghost use Rattle.scheduler.specs.Keeping.{IsSameButAsked, IsSameButMoved, IsSameButTaken};
 ghost use Rattle.scheduler.specs.Taking.{IsQuestionKept, KeepsQuestion, KeepsQuestionOf, asked_by, behind, failed_by, unit_asked, unit_failed, with_asked, with_failed, without_unit};
@@ -16,7 +16,7 @@ use std::time::Instant;
 use turn_rules::Act;
 
 impl Desk<'_> {
-    /// Keeps what follows of what the node did. (What it was wished it may not have done.)
+    /// Updates the desk after a step of the node. (The node may not have done what it was wished.)
     ///
     /// # Errors
     ///
@@ -50,7 +50,7 @@ impl Desk<'_> {
         }
     }
 
-    /// Keeps what follows of what the member was asked.
+    /// Updates the desk after a step of the node's own.
     fn took_input(
         &mut self,
         rt: &HostRuntime,
@@ -80,7 +80,7 @@ impl Desk<'_> {
         }
     }
 
-    /// Keeps that the others were asked for what the path names.
+    /// The others were asked for the unit that the path names.
     fn asked_for(&mut self, member: &Member<'_>, path: &PkgPath, now: Instant) -> Result<(), Memory>
         ensures asked { OnOk result (self.new.asked.keys
             ≡ with_asked self.old.asked.keys (number_found member.now.division path.now)) }
@@ -98,8 +98,8 @@ impl Desk<'_> {
         Ok(())
     }
 
-    /// The build of the unit that the path names failed: it is claimed no more, until its mark is
-    /// taken away. One without a mark gets one.
+    /// The build of the unit that the path names failed. It isn't claimed again until its mark is
+    /// removed. One without a mark gets one.
     fn fail(
         &mut self,
         rt: &HostRuntime,
@@ -141,7 +141,7 @@ impl Desk<'_> {
     }
 }
 
-/// The position behind that of the package of this path, if there is such a package; else 0.
+/// The position after that of the package with this path, or 0 if there is none.
 fn position_behind(member: &Member<'_>, path: &PkgPath) -> u32
     ensures { result ≡ behind (position_of member.now.division.tree path.now) }
 {
