@@ -112,8 +112,8 @@ fn waits_for_its_build<D: Disk, P: Port>(solo: &Solo<'_, D, P>) -> bool
     }
 }
 
-/// Whether nothing is being built here, and either nothing happened for so many seconds and the node
-/// has nothing left to do, or nothing moved for so long that nothing will.
+/// Whether nothing is being built here, and either nothing happened for so many seconds and the
+/// node has nothing left to do, or nothing moved for so long that nothing will.
 fn is_at_rest<D: Disk, P: Port>(
     rt: &HostRuntime,
     solo: &Solo<'_, D, P>,

@@ -274,8 +274,8 @@ fn no_packages(alloc: Global) -> Packages {
     Packages::new(Vec::new(alloc))
 }
 
-/// Whether a node with nothing else to do offers its open claim again: the claim gathers promises or
-/// has its build, and no greater claim is in its way.
+/// Whether a node with nothing else to do offers its open claim again: the claim gathers promises
+/// or has its build, and no greater claim is in its way.
 fn offers_again<D: Disk, P: Port>(solo: &Solo<'_, D, P>) -> bool {
     let node = solo.node();
     node.open_claim().is_some() && node.member().job().is_none() && !solo.is_in_the_way()
