@@ -1,5 +1,5 @@
-//! The command `dpbn build`: one member's node runs on its log and talks to its peers over UDP. What
-//! it claims is built by a builder that watches the work folder. `dpbn node` is passed on.
+//! The command `dpbn build`: one member's node runs on its log and talks to its peers over UDP. A
+//! builder that watches the work folder builds what it claims. `dpbn node` is passed on.
 #![tactic(auto)]
 
 mod answering;
