@@ -66,14 +66,28 @@ class Host:
     def __init__(self, run, me):
         self.run, self.me = run, me
         self.work, self.log = f"{run.folder}/work-{me}", f"{run.folder}/logs/node-{me}.log"
-        self.node = self.driver = self.environment = None
+        self.node = self.driver = self.environment = self.locked = None
         self.began = 0
 
     def out(self, part):
         return f"{self.run.folder}/{part}-{self.me}.out"
 
+    def lock(self):
+        """Holds the lock of the work folder, as a driver does: a node claims nothing if nobody has held it for a minute."""
+        os.makedirs(self.work, exist_ok=True)
+        self.locked = open(f"{self.work}/lock", "a")
+        with contextlib.suppress(BlockingIOError):
+            fcntl.flock(self.locked, fcntl.LOCK_EX | fcntl.LOCK_NB)
+
+    def unlock(self):
+        if self.locked:
+            self.locked.close()
+            self.locked = None
+
     def start_node(self, *words):
         self.began = size_of(self.out("err"))
+        if isinstance(self.run, Lone) and not self.driver and not self.locked:
+            self.lock()
         words = ["--listing", "listing", "--work", self.work, "--dir", "logs", "--members", str(self.run.members),
                  "--me", str(self.me), *self.run.peers, "--progress", "1", *words]
         with open(self.out("node"), "ab") as out, open(self.out("err"), "ab") as err:
@@ -95,6 +109,7 @@ class Host:
 
     def end(self):
         """Ends both, and waits for builds that outlived a driver: their folders are locked as long as they run."""
+        self.unlock()
         for process in (self.driver, self.node):
             if process and process.poll() is None:
                 process.terminate()
@@ -104,6 +119,14 @@ class Host:
     def lines(self):
         """What the node told on standard error since it was started."""
         return contents(self.out("err"))[self.began:].split(b"\n")[:-1]
+
+    def jobs_of(self):
+        """The names of the jobs that are posted."""
+        return [name for name in names_in(f"{self.work}/jobs") if not name.startswith(".")]
+
+    def hand_in(self, part, name, text):
+        put(f"{self.work}/{part}/.{name}.test", text)
+        os.rename(f"{self.work}/{part}/.{name}.test", f"{self.work}/{part}/{name}")
 
     def begun(self):
         """How many builds its drivers began."""
@@ -482,10 +505,6 @@ class Lone(Host):
         until(lambda: unit in self.jobs())
         return self.jobs().get(unit, "none")
 
-    def hand_in(self, part, name, text):
-        put(f"{self.work}/{part}/.{name}.test", text)
-        os.rename(f"{self.work}/{part}/.{name}.test", f"{self.work}/{part}/{name}")
-
     def is_failed(self, unit, name):
         """Waits until the node told that the unit failed, and marked it, and took the answer away."""
         return until(lambda: b"dpbn: failed " + unit.encode() in self.lines() and os.path.exists(f"{self.work}/failed/{name}")
@@ -584,6 +603,7 @@ def killed_while_it_builds(tally):
     """A node that is killed and run again while its job is built doesn't have it built again."""
     script = 'echo >> "$TOP/begun"; until [ -e "$TOP/go" ]; do sleep 0.05; done; mkdir "$OUT/a:b"'
     with lone("a/b.FULLPKGNAME=b-1\n") as host:
+        host.unlock()
         with open(host.out("driver"), "wb") as out:
             words = [f"{TOP}/tools/build-jobs", host.work, host.log, "--", "sh", "-c", script]
             host.driver = subprocess.Popen(words, stdin=subprocess.DEVNULL, stdout=out, stderr=out,
@@ -638,6 +658,12 @@ def overtaken(tally):
     with several("a/b.FULLPKGNAME=b-1\n", "work-0", "work-1", "work-2") as hosts:
         for host in hosts[:2]:
             host.start_node("--takeover", "1")
+        # whoever has the job first has begun it
+        until(lambda: any(host.jobs_of() for host in hosts[:2]), 60)
+        for host in hosts[:2]:
+            os.makedirs(f"{host.work}/begun", exist_ok=True)
+            for name in host.jobs_of():
+                put(f"{host.work}/begun/{name}", b"")
         is_over = until(lambda: all(names_in(f"{host.work}/jobs") for host in hosts[:2]), 60)
         hosts[0].hand_in("done", hosts[0].job("a/b"), b'{"a/b":[{"hex":"78","name":"x"}]}')
         is_held = until(lambda: all(held(host) == 1 for host in hosts[:2]), 60)
@@ -700,6 +726,168 @@ def beside_nodes(tally):
             for it in others:
                 nodes.ended(it)
             host.end()
+
+
+# ---- hosts that stay busy
+
+# a build that takes some seconds, tells when it began and ended, and fails at the hosts that are named
+BUILD = r"""
+stamp() { echo "$1 $HOST $PKGPATH $(date +%s.%N)" >> "$TOP/stamps"; }
+stamp begun
+sleep "$TAKES"
+case " $FAILS " in *" $HOST "*) stamp failed; exit 1; esac
+for path in $PACKAGES; do mkdir "$OUT/$(echo "$path" | tr / :)" || exit 1; done
+stamp ended
+"""
+
+
+def start_building(host, folder, takes=0.0, jobs=1, fails=""):
+    """Starts a driver whose builds take so long, and fail at these hosts."""
+    words = [f"{TOP}/tools/build-jobs", "-j", str(jobs), host.work, host.log, "--", "sh", "-c", BUILD]
+    environment = {**os.environ, "TOP": folder, "TAKES": str(takes), "FAILS": fails}
+    host.unlock()
+    with open(host.out("driver"), "ab") as out:
+        host.driver = subprocess.Popen(words, stdin=subprocess.DEVNULL, stdout=out, stderr=out, env=environment)
+
+
+def stamps(folder):
+    """What the builds told: of each line what happened, at which host, to which unit, and when."""
+    lines = contents(f"{folder}/stamps").decode().split("\n")[:-1] if os.path.exists(f"{folder}/stamps") else []
+    return [(what, int(host), unit, float(when)) for what, host, unit, when in map(str.split, lines)]
+
+
+def begun_in(folder):
+    return [it for it in stamps(folder) if it[0] == "begun"]
+
+
+def plain(count, chain=False):
+    """A listing of so many paths; in a chain each is built on the one before."""
+    lines = [f"a/p{number:02}.FULLPKGNAME=p{number:02}-1" for number in range(count)]
+    lines += [f"a/p{number:02}.BUILD_DEPENDS=a/p{number - 1:02}" for number in range(1, count) if chain]
+    return "\n".join(sorted(lines)) + "\n"
+
+
+def own_units(tally, units=36):
+    """Three hosts that claim their own units at the same time: no claim waits for another host's, and nothing is built twice."""
+    with several(plain(units), "work-0", "work-1", "work-2") as hosts:
+        began = time.monotonic()
+        for host in hosts:
+            host.start_node("--jobs", "4")
+            start_building(host, hosts[0].folder, takes=0.2, jobs=4)
+        is_held = until(lambda: all(held(host) == units for host in hosts), 120)
+        took, count = time.monotonic() - began, len(begun_in(hosts[0].folder))
+        print(f"tests/run: {units} units of 0.2 s on three hosts of four jobs: {took:.1f} s, {count} builds begun", flush=True)
+        # one claim each 250 ms in the whole cluster took 9 s
+        right = is_held and took < units * 0.25 and count == units
+        check(tally, "units of each host's own", right, is_held, took, count, [host.lines()[-3:] for host in hosts])
+
+
+def left_by_one(tally, units=12):
+    """Three hosts of which one is never started: the others take its units without a wait for `--takeover`, several at a time."""
+    with several(plain(units), "work-0", "work-1", "work-2") as hosts:
+        for host in hosts[:2]:
+            host.start_node("--jobs", "4")
+            start_building(host, hosts[0].folder, takes=0.1, jobs=4)
+        is_held = until(lambda: all(held(host) == units for host in hosts[:2]), 60)
+        count = len(begun_in(hosts[0].folder))
+        check(tally, "units of a host that is down", is_held and count == units, is_held, count, [host.lines()[-3:] for host in hosts[:2]])
+
+
+def alone(tally, units=20):
+    """A lone node: it reacts at once, and while it waits for a build it leaves the processor to others."""
+    with lone(plain(units)) as host:
+        began = time.monotonic()
+        start_building(host, host.folder)
+        is_held = until(lambda: held(host) == units, 120)
+        took = time.monotonic() - began
+        print(f"tests/run: a lone node, {units} units that take no time: {took:.1f} s", flush=True)
+        # a second and more for each unit before
+        check(tally, "a lone node, how soon it holds all", is_held and took < units, is_held, took, host.lines()[-3:])
+    with lone(plain(2)) as host:
+        host.job("a/p00")
+        before = processor_time(host.node)
+        time.sleep(5)
+        used = (processor_time(host.node) - before) / 5
+        check(tally, "a lone node that waits, its share of a processor", used < 0.15, used)
+
+
+def latency(tally, units=12):
+    """A chain of units whose owners are three hosts in turn: from the end of a build to the begin of the one that waits for it."""
+    with several(plain(units, chain=True), "work-0", "work-1", "work-2") as hosts:
+        for host in hosts:
+            host.start_node()
+            start_building(host, hosts[0].folder, takes=0.1)
+        is_held = until(lambda: all(held(host) == units for host in hosts), 120)
+        seen = stamps(hosts[0].folder)
+        ended, begun = ({unit: (host, when) for what, host, unit, when in seen if what == wanted} for wanted in ("ended", "begun"))
+        names = sorted(begun)
+        gaps = [begun[after][1] - ended[before][1] for before, after in zip(names, names[1:])
+                if before in ended and begun[after][0] != ended[before][0]]
+        median = sorted(gaps)[len(gaps) // 2] if gaps else 99
+        print(f"tests/run: from a build's end to the next one's begin on another host: {median * 1000:.0f} ms in the median of {len(gaps)}",
+              flush=True)
+        check(tally, "from host to host", is_held and median < 0.25, is_held, gaps)
+
+
+def failed_elsewhere(tally):
+    """A unit whose build failed at one host is built by another at once; one that fails everywhere holds nobody up."""
+    with several(plain(6), "work-0", "work-1", "work-2") as hosts:
+        for host in hosts:
+            host.start_node()
+            start_building(host, hosts[0].folder, fails="1")
+        is_held = until(lambda: all(held(host) == 6 for host in hosts), 60)
+        marks = [len(names_in(f"{host.work}/failed")) for host in hosts]
+        once = len({(host, unit) for _, host, unit, _ in begun_in(hosts[0].folder)}) == len(begun_in(hosts[0].folder))
+        check(tally, "what failed at one host", is_held and once, is_held, marks, [host.lines()[-3:] for host in hosts])
+    with several(plain(3), "work-0", "work-1", "work-2") as hosts:
+        for host in hosts:
+            host.start_node("--rest", "4")
+            start_building(host, hosts[0].folder, fails="0 1 2")
+        ended = until(lambda: all(host.node.poll() is not None for host in hosts), 90)
+        statuses = [host.node.poll() for host in hosts]
+        check(tally, "what fails everywhere, how the nodes end", ended and statuses == [3] * 3, statuses, stamps(hosts[0].folder))
+
+
+def away(tally):
+    """A host that can't build now, or is drained: it gives back what hasn't begun, keeps what has, and claims nothing more."""
+    for name in ("away", "stop"):
+        with several(plain(2), "work-0", "work-1", "work-2") as hosts:
+            for host in hosts:
+                host.start_node("--jobs", "2")
+            posted = until(lambda: sum(len(host.jobs_of()) for host in hosts) == 2, 30)
+            first = next((host for host in hosts if host.jobs_of()), hosts[0])
+            kept, given = (first.jobs_of() + ["none", "none"])[:2]
+            os.makedirs(f"{first.work}/begun", exist_ok=True)
+            if len(first.jobs_of()) == 2:
+                put(f"{first.work}/begun/{kept}", b"")
+            else:
+                given = kept
+            put(f"{first.work}/{name}", b"")
+            others = [host for host in hosts if host is not first]
+            is_given = posted and until(lambda: any(given in host.jobs_of() for host in others) and given not in first.jobs_of(), 30)
+            check(tally, f"a host with work/{name}, what it gives back", is_given, [host.jobs_of() for host in hosts],
+                  [host.lines()[-3:] for host in hosts])
+
+
+def late_claims(tally):
+    """A node that starts when another host builds a unit leaves that to it, though it never heard of the claim."""
+    with several("a/b.FULLPKGNAME=b-1\na/c.FULLPKGNAME=c-1\na/c.BUILD_DEPENDS=a/b\n", "work-0", "work-1", "work-2") as hosts:
+        for host in hosts[:2]:
+            host.start_node()
+        for unit in ("a/b", "a/c"):
+            posted = until(lambda: any(host.jobs_of() for host in hosts[:2]), 30)
+            builder = next((host for host in hosts[:2] if host.jobs_of()), hosts[0])
+            if unit == "a/b":
+                name = builder.jobs_of()[0]
+                builder.hand_in("done", name, b'{"a/b":[]}')
+                until(lambda: all(held(host) == 1 for host in hosts[:2]), 30)
+                # as a driver does once the unit is held
+                os.unlink(f"{builder.work}/jobs/{name}")
+        hosts[2].start_node()
+        until(lambda: held(hosts[2]) == 1, 30)
+        time.sleep(4)
+        told = [host.jobs_of() for host in hosts]
+        check(tally, "a node that starts late, what it leaves to others", posted and not told[2], told, [host.lines()[-3:] for host in hosts])
 
 
 # ---- what is sent, and what is kept
@@ -972,6 +1160,7 @@ def start_storing(host, script):
     """Starts a driver that keeps large files in its store, and gets what it lacks from those of the others."""
     get = f'cp "{host.run.folder}/work-$HOST/store/$SHA256" "$TARGET"'
     words = [f"{TOP}/tools/build-jobs", "--digests", "1000000", "--fetch", get, host.work, host.log, "--", "sh", "-c", script]
+    host.unlock()
     with open(host.out("driver"), "ab") as out:
         host.driver = subprocess.Popen(words, stdin=subprocess.DEVNULL, stdout=out, stderr=out)
 
@@ -1119,6 +1308,8 @@ def run(tally):
     for word in ("MAKEFLAGS", "MFLAGS", "MAKELEVEL"):
         os.environ.pop(word, None)
     for one in (no_calls, faults, posted_on_the_disk, large, nearly_full, a_day):
+        one(tally)
+    for one in (latency, own_units, left_by_one, alone, failed_elsewhere, away, late_claims):
         one(tally)
     beside(tally, (answers, rests_behind_all_jobs, taken_away, killed_while_it_builds, one_folder, overtaken, left_to_another, other_runs,
                    beside_nodes, quiet, unanswered, voted_by_nobody, no_majority, long_run, manual_page, readme))

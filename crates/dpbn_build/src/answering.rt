@@ -15,6 +15,7 @@ ghost use Rattle.dpbn_node.specs.Starts.{IsStartRefusal};
 ghost use Rattle.program_io.specs.Refusals.{IsSystemRefusal};
 
 use crate::ending::Rest;
+use crate::host::Builder;
 use crate::office::Office;
 use crate::pacing::Pacing;
 use crate::turning::run;
@@ -139,12 +140,13 @@ fn office_of<'f>(
     let folder = folder_of(rt, site.work, me, has_notes)?;
     let now = Instant::now(rt)?;
     let takeover = site.takeover.unwrap_or(TAKEOVER);
+    let pace = pace_of(site.jobs, takeover);
     Ok(Office {
-        desk: Desk::new(rt.alloc(), folder, pace_of(site.jobs, takeover), now),
+        desk: Desk::new(rt.alloc(), folder, pace, has_notes, now),
         pacing: Pacing::new(now),
+        builder: Builder::new(now),
         rest: Rest::new(now, takeover, site.members),
         telling,
-        is_lone: site.members == 1,
         progress: site.progress,
         told_at: now,
         looked_at: now,

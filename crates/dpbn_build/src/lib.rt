@@ -4,6 +4,7 @@
 
 mod answering;
 mod ending;
+mod host;
 mod office;
 mod pacing;
 mod turning;

@@ -1,6 +1,7 @@
 //! The work beside a node's turns: its builds, its wishes, and what is printed about it.
 
 use crate::ending::Rest;
+use crate::host::Builder;
 use crate::pacing::Pacing;
 use datagram_ports::Port;
 use dpbn_node::{Act, Solo, Telling, TurnFault, front_of_requests};
@@ -51,10 +52,9 @@ pub(crate) struct Turned {
 pub(crate) struct Office<'f> {
     pub desk: Desk<'f>,
     pub pacing: Pacing,
+    pub builder: Builder,
     pub rest: Rest,
     pub telling: Telling,
-    /// Whether there are no other members.
-    pub is_lone: bool,
     /// Every how many seconds the node's line is printed, if at all.
     pub progress: Option<u32>,
     /// When it was printed last.
@@ -99,10 +99,13 @@ impl<'f> Office<'f> {
         }
         let now = self.pacing.now;
         let member = solo.node().member();
+        if self.pacing.is_held_up() && !self.desk.is_hit(member) {
+            return Ok((None, None));
+        }
         self.desk.tick(member, now)?;
+        self.look_at_host(rt, member, err)?;
         let made = self.made(rt, member, err)?;
-        let is_held_up = self.pacing.is_busy() && !self.pacing.is_late();
-        if made.is_some() || is_held_up && !self.desk.is_hit(member) {
+        if made.is_some() {
             return Ok((made, None));
         }
         let wish = self.desk.wish(rt, member, solo.is_in_the_way(), now)?;
@@ -128,28 +131,38 @@ impl<'f> Office<'f> {
         }
     }
 
-    /// How long the next turn waits where nothing comes: not at all where what is wished has
-    /// waited, or a question was just answered; and for a second where nothing is left to do but to
-    /// wait.
+    /// How long the next turn waits if nothing comes. The first of these that applies:
+    ///
+    /// - as long as the port's patience says, before it claims although a greater claim is in the
+    ///   way: nodes that claim the same unit must not wait equally long;
+    /// - not at all, if the node has a wish;
+    /// - if the node offers its claim again: a second if it did so lately, else as long as the
+    ///   port's patience says;
+    /// - not at all, if the last turn took a datagram;
+    /// - else 20 ms, so that an answer in the work folder is seen soon.
     fn hurry<D: Disk, P: Port>(&self, solo: &Solo<'_, D, P>, is_wished: bool) -> Hurry {
-        let is_hit = self.desk.is_hit(solo.node().member());
-        if self.pacing.is_late() || is_hit && is_wished {
+        if is_wished && solo.is_in_the_way() && !self.pacing.is_late() {
+            Hurry::Patient
+        } else if is_wished {
             Hurry::Brief
-        } else if !is_wished && self.just_waits(solo) {
+        } else if !offers_again(solo) {
+            self.hurry_idle()
+        } else if self.pacing.is_too_soon() {
             Hurry::Slow
+        } else if self.pacing.is_late() {
+            Hurry::Brief
         } else {
             Hurry::Patient
         }
     }
 
-    /// Whether all that is left to do is to offer again what was so offered within the last second;
-    /// or, of a lone node, to wait for a build or for the end.
-    fn just_waits<D: Disk, P: Port>(&self, solo: &Solo<'_, D, P>) -> bool {
-        let member = solo.node().member();
-        if self.is_lone {
-            return member.job().is_some() || !self.desk.has_more(member);
+    /// The same, for a node that has nothing to offer again.
+    fn hurry_idle(&self) -> Hurry {
+        if self.pacing.is_busy() && !self.pacing.is_paused() {
+            Hurry::Brief
+        } else {
+            Hurry::Steady
         }
-        self.pacing.is_too_soon() && offers_again(solo)
     }
 
     /// Updates the state after a turn, and prints what is to be printed about it.
@@ -172,6 +185,7 @@ impl<'f> Office<'f> {
             Ok(Some(Act::Datagram(bytes))) => {
                 has_moved = has_sent && is_question(bytes.as_slice());
                 self.pacing.took(true);
+                self.keep_act(rt, solo.node().member(), &Act::Datagram(bytes), err);
             }
             Ok(Some(Act::Own(input))) => {
                 self.pacing.took(false);
@@ -204,10 +218,18 @@ impl<'f> Office<'f> {
             let _ = err.write_all(path.as_bytes());
             let _ = err.write_all(b"\n");
         }
-        if let Err(fault) = self
-            .desk
-            .took(rt, member, &Act::Own(input), self.pacing.now)
-        {
+        self.keep_act(rt, member, &Act::Own(input), err);
+    }
+
+    /// Updates the desk after a step of the node.
+    fn keep_act<E: Write>(
+        &mut self,
+        rt: &HostRuntime,
+        member: &Member<'_>,
+        act: &Act,
+        err: &mut E,
+    ) {
+        if let Err(fault) = self.desk.took(rt, member, act, self.pacing.now) {
             self.refuse(&fault, err);
         }
     }

@@ -60,6 +60,11 @@ impl Pacing {
         self.is_busy() && !self.is_less_than(LATE, self.busy_since)
     }
 
+    /// Whether datagrams delay a wish at the moment.
+    pub fn is_held_up(&self) -> bool {
+        self.is_busy() && !self.is_late()
+    }
+
     /// Whether the node repeated an offer so recently that it doesn't repeat it yet.
     pub fn is_too_soon(&self) -> bool {
         self.is_less_than(AGAIN, self.again_at)

@@ -1,6 +1,7 @@
 //! How long a node that builds with others waits.
 ghost use Rattle.std.specs.Prelude.{◌≡◌};
-ghost use Rattle.scheduler.specs.Waiting.{is_over};
+ghost use Rattle.std.specs.Duration.{as_nanos};
+ghost use Rattle.scheduler.specs.Waiting.{has_waited, is_over};
 
 use std::time::{Duration, Instant};
 
@@ -12,8 +13,8 @@ pub struct Pace {
     pub ask: Duration,
     /// Before a unit that was promised to another member is claimed.
     pub takeover: Duration,
-    /// Between the times at which two members claim one unit, and between a question for a unit and
-    /// the claim for it.
+    /// Between the times at which two members may claim one unit; and between the last question of
+    /// a node that is behind and its first claim.
     pub slot: Duration,
 }
 
@@ -22,4 +23,14 @@ pub(crate) fn is_over(wait: Duration, since: Instant, now: Instant) -> bool
     ensures { result ≡ is_over wait since now }
 {
     now.duration_since(since).checked_sub(wait).is_some()
+}
+
+/// The same, if it is known when the wait began; else it isn't over.
+pub(crate) fn has_waited(wait: Duration, since: Option<Instant>, now: Instant) -> bool
+    ensures { result ≡ has_waited (as_nanos wait) since now }
+{
+    match since {
+        Some(since) => is_over(wait, since, now),
+        None => false,
+    }
 }

@@ -15,16 +15,15 @@ use job_folder::{Answer, Name, WorkFault};
 use member::Member;
 
 impl Desk<'_> {
-    /// What there is of the build for which the member's job waits, if it has one. A job that was
-    /// not handed out before is handed out, unless its answer is there already; so is one whose
-    /// file is gone.
+    /// The state of the build for the member's job, if it has one that this host didn't give back.
+    /// The job is handed out if it isn't out yet, or if its file is gone, unless it has an answer.
     ///
     /// # Errors
     ///
     /// Memory; what the system refused.
     pub fn look(&mut self, rt: &HostRuntime, member: &Member<'_>) -> Result<Look, WorkFault>
         ensures out { OnOk result
-            (self.new.out.items ≡ out_with_job member.now self.old.out.items) }
+            (self.new.out.items ≡ out_with_job member.now self.old) }
         ensures seen { IfOk result IsLook }
         ensures left { OnErr result (self.new.out.items ≡ self.old.out.items) }
         ensures rest { IsSameButOut self.old self.new }
@@ -38,6 +37,9 @@ impl Desk<'_> {
         let Some(unit) = member.units().find(&job.path) else {
             return Ok(Look::NotYet);
         };
+        if self.returned.contains(&unit) {
+            return Ok(Look::NotYet);
+        }
         self.looked_for(rt, member.tree_digest(), job, unit)
     }
 

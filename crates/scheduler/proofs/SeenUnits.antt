@@ -1,33 +1,30 @@
--- What is seen of units that are away.
-use Rattle.std.proofs.Common.{◌≡◌, ◌||◌, ◌∙◌, ℕ, Bool, true, false, None, Option, Some, ap, cond, eqb-true, eq-eqb, not, refl, subst, sym}
+-- What is seen of queued units.
+use Rattle.std.proofs.Common.{◌≡◌, ◌∙◌, ℕ, Bool, true, false, None, Option, Some, ap, cond, eqb-true, eq-eqb, refl, subst, sym}
 use Rattle.std.specs.Prelude.{IfSome, if◌then◌else◌, is_some, nat_eq}
 use Rattle.std.specs.declared.time.Instant.{Instant}
-use Rattle.std.proofs.lemmas.Bool.{or_right}
 use Rattle.turn_rules.specs.Own.{Barred, is_barred}
 use Rattle.engine.specs.Division.{number_of}
-use Rattle.turn_rules.specs.Wishes.{is_away}
 use Rattle.turn_rules.proofs.Owned.{NoneFreeBefore}
 use Rattle.protocol.specs.State.{State}
-use Rattle.scheduler.specs.Waiting.{AreAway, AwayBy, IsSeen, is_noticed}
-use Rattle.scheduler.specs.declared.away.Away.{Away}
+use Rattle.scheduler.specs.Waiting.{AreSince, IsSeen, SeenBy, is_seen}
+use Rattle.scheduler.specs.declared.seen.Seen.{Seen}
 
 -- one more is kept by its unit
-abbrev pub IsKept : AwayBy → ℕ → Away → AwayBy → Type 0
+abbrev pub IsKept : SeenBy → ℕ → Seen → SeenBy → Type 0
 IsKept old unit a new = (u : ℕ) → new u ≡ (if nat_eq unit u then Some a else old u)
 
 -- one of two that are seen
-one_of : (s : State) (before : AwayBy) (now : Instant) (unit u : ℕ) (a : Away) (o : Option Away) (b : Bool)
+one_of : (s : State) (before : SeenBy) (now : Instant) (unit u : ℕ) (a : Seen) (o : Option Seen) (b : Bool)
     → (b ≡ true → unit ≡ u) → IsSeen s before now unit a → IfSome o (IsSeen s before now u)
     → IfSome (cond b (Some a) o) (IsSeen s before now u)
 one_of s before now unit u a o true same is was = subst (λ v. IsSeen s before now v a) (same refl) is
 one_of s before now unit u a o false same is was = was
 
 -- what was there, or one more, is there
-still_there : (x b : Bool) (a : Away) (o : Option Away) → (x || is_some o) ≡ true
-    → (x || is_some (cond b (Some a) o)) ≡ true
-still_there true b a o h = refl
-still_there false true a o h = refl
-still_there false false a o h = h
+still_there : (b : Bool) (a : Seen) (o : Option Seen) → is_some o ≡ true
+    → is_some (cond b (Some a) o) ≡ true
+still_there true a o h = refl
+still_there false a o h = h
 
 -- what is false with more bars is false with fewer
 still_false : (b c : Bool) → (b ≡ true → c ≡ true) → c ≡ false → b ≡ false
@@ -46,23 +43,20 @@ module _ (s : State) where
   none_freed barred more mono from none k below free =
       none k below (free.0, unbarred barred more mono (number_of s.division k) free.1)
 
-  module _ (before : AwayBy) (now : Instant) (old : AwayBy) (unit : ℕ) (a : Away) (new : AwayBy)
+  module _ (before : SeenBy) (now : Instant) (old : SeenBy) (unit : ℕ) (a : Seen) (new : SeenBy)
       (kept : IsKept old unit a new) where
-    -- all are away, with one more that is
-    pub all_away : IsSeen s before now unit a → AreAway s before now old → AreAway s before now new
-    all_away is all u =
+    -- all are as they are seen, with one more that is
+    pub all_since : IsSeen s before now unit a → AreSince s before now old → AreSince s before now new
+    all_since is all u =
         subst (λ o. IfSome o (IsSeen s before now u)) (sym (kept u))
         (one_of s before now unit u a (old u) (nat_eq unit u) (eqb-true unit u) is (all u))
 
-    -- what was noticed is
-    pub all_noticed : (u : ℕ) → is_noticed s old u ≡ true → is_noticed s new u ≡ true
-    all_noticed u was =
-        ap (λ o. not (is_away s u) || is_some o) (kept u)
-        ∙ still_there (not (is_away s u)) (nat_eq unit u) a (old u) was
+    -- what was among them is
+    pub all_seen : (u : ℕ) → is_seen old u ≡ true → is_seen new u ≡ true
+    all_seen u was = ap is_some (kept u) ∙ still_there (nat_eq unit u) a (old u) was
 
     -- and the unit is
-    pub one_noticed : (number : Option ℕ) → number ≡ Some unit → is_barred (is_noticed s new) number ≡ true
-    one_noticed number is =
-        ap (is_barred (is_noticed s new)) is
-        ∙ or_right (not (is_away s unit)) (is_some (new unit))
-        (ap is_some (kept unit ∙ ap (λ b. cond b (Some a) (old unit)) (eq-eqb unit unit refl)))
+    pub one_seen : (number : Option ℕ) → number ≡ Some unit → is_barred (is_seen new) number ≡ true
+    one_seen number is =
+        ap (is_barred (is_seen new)) is
+        ∙ ap is_some (kept unit ∙ ap (λ b. cond b (Some a) (old unit)) (eq-eqb unit unit refl))
