@@ -1,4 +1,4 @@
-//! The work beside a node's turns: its builds, its wishes, and what is printed about it.
+//! The work between a node's turns: its builds, its wishes, and what is printed about it.
 
 use crate::ending::Rest;
 use crate::host::Builder;
@@ -47,7 +47,7 @@ pub(crate) struct Turned {
     pub has_sent: bool,
 }
 
-/// The work beside a node's turns.
+/// The work between a node's turns.
 #[derive(Drop)]
 pub(crate) struct Office<'f> {
     pub desk: Desk<'f>,

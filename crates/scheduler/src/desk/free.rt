@@ -18,8 +18,8 @@ use member::Member;
 use std::time::{Duration, Instant};
 
 impl Desk<'_> {
-    /// The least queued position of those that are looked for whose unit may be claimed at this
-    /// time; where none is told, be it left to other members or not.
+    /// The first queued position of those that are looked for whose unit may be claimed at this
+    /// time. Without a time it doesn't matter whether the unit is left to other members.
     pub(crate) fn least_of(
         &self,
         member: &Member<'_>,

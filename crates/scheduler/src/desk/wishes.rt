@@ -180,7 +180,7 @@ impl Desk<'_> {
     }
 
     /// The wish to ask for what is queued and isn't built here, each in turn, if a question is due.
-    /// It fails only for want of memory.
+    /// Fails only if memory runs out.
     pub fn ask(&self, member: &Member<'_>, now: Instant) -> Result<Option<Wish>, Memory>
         ensures { IfOk result (λ o. IfSome o (IsDueQuestion member.now self.now now)) }
     {
