@@ -36,7 +36,7 @@ class Units:
         for path in self.paths:
             if path not in self.ignored:
                 groups.setdefault(group_of(path), []).append(path)
-        # a path that is alone in its group is a unit of its own name
+        # the only path of a group is a unit of its own name
         self.packages = {group if len(paths) > 1 else paths[0]: paths for group, paths in groups.items()}
         self.unit_of = {path: unit for unit, paths in self.packages.items() for path in paths}
         self.names = list(self.packages)

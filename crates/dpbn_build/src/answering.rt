@@ -45,7 +45,7 @@ const TAKEOVER: u32 = 600;
 /// on `err`, and the node goes on.
 ///
 /// Everything is checked before the first turn, in this order: the listing, the weights, the key's
-/// file, the hosts, the member, the log's file and the run file beside it, the socket, the work
+/// file, the hosts, the member, the log's file and its run file, the socket, the work
 /// folder, and the clock. No byte of the log is written before all of these passed. Then come the
 /// log itself and the writing of the run file.
 ///
@@ -120,7 +120,7 @@ fn has_notes(disk: &mut FileDisk, owner: &Identity) -> Result<bool, Refusal>
     }
 }
 
-/// The work beside the node's turns. The node has the work folder to itself.
+/// The work between the node's turns. The node has the work folder to itself.
 ///
 /// # Errors
 ///
@@ -168,8 +168,8 @@ fn folder_of<'f>(
     }
 }
 
-/// The waits of a node that builds so many units at a time, by default one, and leaves the units of
-/// other members to them for so many seconds.
+/// The waits of a node that builds `jobs` units at a time, by default one, and leaves the units of
+/// other members to them for `takeover` seconds.
 fn pace_of(jobs: Option<u8>, takeover: u32) -> Pace {
     Pace {
         jobs: u32::from(jobs.unwrap_or(1)),

@@ -65,13 +65,13 @@ impl Rest {
         self.moved_at = now;
     }
 
-    /// Whether nothing was noted for so many seconds.
+    /// Whether nothing was noted for this number of seconds.
     fn is_over(&self, now: Instant, seconds: u32) -> bool {
         now.duration_since(self.since) >= Duration::from_secs(u64::from(seconds))
     }
 
     /// Whether nothing moved for so long that each member in turn could have taken a unit over and
-    /// then rested for so many seconds.
+    /// then rested for this number of seconds.
     fn is_long_over(&self, now: Instant, seconds: u32) -> bool {
         let rests = u64::from(seconds).saturating_mul(u64::from(self.members));
         let left = u64::from(self.takeover).saturating_add(SLOTS);
@@ -79,7 +79,7 @@ impl Rest {
     }
 }
 
-/// Whether the node ends: it is down, or it is at rest and was told to end then.
+/// Whether the node ends: it is down, or it is at rest and `rest` says that it ends then.
 pub(crate) fn is_at_end<D: Disk, P: Port, E: Write>(
     rt: &HostRuntime,
     solo: &Solo<'_, D, P>,
@@ -112,8 +112,8 @@ fn waits_for_its_build<D: Disk, P: Port>(solo: &Solo<'_, D, P>) -> bool
     }
 }
 
-/// Whether nothing is being built here, and either nothing happened for so many seconds and the
-/// node has nothing left to do, or nothing moved for so long that nothing will.
+/// Whether nothing is being built here, and either nothing happened for this number of seconds and
+/// the node has nothing left to do, or nothing moved for so long that nothing will.
 fn is_at_rest<D: Disk, P: Port>(
     rt: &HostRuntime,
     solo: &Solo<'_, D, P>,

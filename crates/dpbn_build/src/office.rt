@@ -1,4 +1,4 @@
-//! The work beside a node's turns: its builds, its wishes, and what is printed about it.
+//! The work between a node's turns: its builds, its wishes, and what is printed about it.
 
 use crate::ending::Rest;
 use crate::pacing::Pacing;
@@ -46,7 +46,7 @@ pub(crate) struct Turned {
     pub has_sent: bool,
 }
 
-/// The work beside a node's turns.
+/// The work between a node's turns.
 #[derive(Drop)]
 pub(crate) struct Office<'f> {
     pub desk: Desk<'f>,
@@ -128,9 +128,8 @@ impl<'f> Office<'f> {
         }
     }
 
-    /// How long the next turn waits where nothing comes: not at all where what is wished has
-    /// waited, or a question was just answered; and for a second where nothing is left to do but to
-    /// wait.
+    /// How long the next turn waits if nothing comes: not at all if a wish has waited, or a question
+    /// was answered in the last turn; and a second if there is nothing to do but to wait.
     fn hurry<D: Disk, P: Port>(&self, solo: &Solo<'_, D, P>, is_wished: bool) -> Hurry {
         let is_hit = self.desk.is_hit(solo.node().member());
         if self.pacing.is_late() || is_hit && is_wished {

@@ -65,7 +65,7 @@ impl Pacing {
         self.is_less_than(AGAIN, self.again_at)
     }
 
-    /// Whether it happened, less than so many milliseconds ago.
+    /// Whether it happened, less than this number of milliseconds ago.
     fn is_less_than(&self, milliseconds: u64, then: Option<Instant>) -> bool {
         match then {
             Some(then) => self.now.duration_since(then) < Duration::from_millis(milliseconds),

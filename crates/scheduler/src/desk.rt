@@ -114,8 +114,8 @@ impl<'f> Desk<'f> {
         false
     }
 
-    /// Forgets what came to be held, and looks at what may be claimed and, now and then, at what is
-    /// away. It fails only for want of memory.
+    /// Forgets what is held now, and looks at what may be claimed and, now and then, at what is
+    /// away. Fails only if memory runs out.
     pub fn tick(&mut self, member: &Member<'_>, now: Instant) -> Result<(), Memory>
         ensures out { self.new.out.items ≡ not_held member.now self.old.out.items }
         ensures away { (self.new.away ≡ self.old.away)

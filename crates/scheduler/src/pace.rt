@@ -17,7 +17,7 @@ pub struct Pace {
     pub slot: Duration,
 }
 
-/// Whether so long a wait that began then is over.
+/// Whether a wait of this length that began then is over.
 pub(crate) fn is_over(wait: Duration, since: Instant, now: Instant) -> bool
     ensures { result ≡ is_over wait since now }
 {

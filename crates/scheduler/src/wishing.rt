@@ -117,7 +117,7 @@ pub(crate) fn promised(member: &Member<'_>, unit: u32) -> Option<Claim>
     member.promised(member.units().name(unit))
 }
 
-/// The wish to ask for the least package that is queued, at or behind this position.
+/// The wish to ask for the first package that is queued, at this position or after it.
 pub(crate) fn ask_from(member: &Member<'_>, from: u32) -> Result<Option<Wish>, Memory>
     ensures { IfOk result (IsAskFrom member.now from) }
 {

@@ -31,8 +31,8 @@ impl Desk<'_> {
         }
     }
 
-    /// The least queued position whose unit may be claimed at this time; where none is told, be it
-    /// left to another member or not.
+    /// The first queued position whose unit may be claimed at this time. Without a time it doesn't
+    /// matter whether the unit is left to another member.
     pub(crate) fn least_free(&self, member: &Member<'_>, at: Option<Instant>) -> Option<u32>
         ensures { IsLeastFree member.now (barred_at self.now member.now at) result }
     {

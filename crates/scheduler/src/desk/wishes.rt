@@ -123,8 +123,8 @@ impl Desk<'_> {
         Ok(!self.folder.is_posted(rt, name)?)
     }
 
-    /// The wish to ask for what is queued, each in turn, if a question is due. It fails only for
-    /// want of memory.
+    /// The wish to ask for what is queued, each in turn, if a question is due. Fails only if memory
+    /// runs out.
     pub fn ask(&self, member: &Member<'_>, now: Instant) -> Result<Option<Wish>, Memory>
         ensures { IfOk result (λ o. IfSome o (IsDueQuestion member.now self.now now)) }
     {
