@@ -2,8 +2,11 @@
 PREFIX ?=	/usr/local
 BINDIR ?=	$(PREFIX)/bin
 MANDIR ?=	$(PREFIX)/man
+# where the Python tools find their modules, from BINDIR: ../share/dpbn
+SHAREDIR ?=	$(PREFIX)/share/dpbn
 # what is installed beside the programs; each has a page in man/
-TOOLS =		expand-listing why-ignored unpack-log make-builds build-jobs
+TOOLS =		expand-listing why-ignored unpack-log make-builds build-jobs make-listing order-listing build-over-ssh \
+		dpbn-report dpbn-host dpbn-hosts
 
 all:
 	tools/build dpbr dpbn
@@ -12,11 +15,22 @@ check:
 	tests/run
 
 install: all
-	install -d $(DESTDIR)$(BINDIR) $(DESTDIR)$(MANDIR)/man1 $(DESTDIR)$(MANDIR)/man5
+	install -d $(DESTDIR)$(BINDIR) $(DESTDIR)$(MANDIR)/man1 $(DESTDIR)$(MANDIR)/man5 $(DESTDIR)$(MANDIR)/man7 $(DESTDIR)$(SHAREDIR)/services
 	for program in dpbr dpbn; do install -m 755 crates/$$program/out/$$program $(DESTDIR)$(BINDIR)/$$program || exit 1; done
 	for tool in $(TOOLS); do install -m 755 tools/$$tool $(DESTDIR)$(BINDIR)/$$tool || exit 1; done
+	for part in dpbn_tools dpbn_tools/driver; do \
+		install -d $(DESTDIR)$(SHAREDIR)/$$part || exit 1; \
+		for module in tools/$$part/*.py; do install -m 644 $$module $(DESTDIR)$(SHAREDIR)/$$part/ || exit 1; done; \
+	done
+	install -d $(DESTDIR)$(SHAREDIR)/examples
+	install -m 755 examples/build-port $(DESTDIR)$(SHAREDIR)/examples/
+	install -m 644 tools/dpbn_tools/page.html $(DESTDIR)$(SHAREDIR)/dpbn_tools/
+	for service in services/*; do \
+		sed "s|@BINDIR@|$(BINDIR)|" $$service > $(DESTDIR)$(SHAREDIR)/$$service && chmod 644 $(DESTDIR)$(SHAREDIR)/$$service || exit 1; \
+	done
 	for page in man/*.1; do install -m 644 $$page $(DESTDIR)$(MANDIR)/man1/ || exit 1; done
 	for page in man/*.5; do install -m 644 $$page $(DESTDIR)$(MANDIR)/man5/ || exit 1; done
+	for page in man/*.7; do install -m 644 $$page $(DESTDIR)$(MANDIR)/man7/ || exit 1; done
 
 dist: all
 	tools/dist

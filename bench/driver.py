@@ -9,12 +9,12 @@ import sources
 
 
 def probes():
-    """The program, once it is told which one is timed; without it the bench ends."""
+    """The program. Prints which one is timed; without it the bench ends."""
     program, bench = sources.program_of("probes"), os.path.basename(sys.argv[0])
     where = os.path.relpath(program, sources.TOP)
     if not os.path.exists(program):
         sys.exit(f"bench/{bench}: {where} isn't built: `tools/prove probes` proves and builds it")
     built = time.strftime("%Y-%m-%d %H:%M", time.localtime(os.path.getmtime(program)))
-    of_what = "the sources as they stand" if sources.is_current("probes") else "OLDER SOURCES than those that stand: `tools/prove probes` builds it anew"
+    of_what = "the current sources" if sources.is_current("probes") else "OLDER SOURCES than the current ones: `tools/prove probes` builds it anew"
     print(f"bench/{bench}: times {where} of {built}, built of {of_what}", flush=True)
     return program

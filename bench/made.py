@@ -1,8 +1,8 @@
 """Listings that are made up, the same in every run, and how long a program takes on them.
 
-The listings have layers, as a ports tree has: a path depends on paths of lower layers, often on few hubs (a compiler, a make,
-a library of everything) and seldom far down; most paths have few dependencies, a few have sixty; some are subpackages, some
-have flavors, some are ignored.
+The listings have layers, as a ports tree has. A path depends on paths of lower layers, often on a few hubs (a compiler, a make,
+a large library) and seldom far down. Most paths have few dependencies, and a few have sixty. Some are subpackages, some have
+flavors, and some are ignored.
 """
 import os
 import statistics
@@ -116,7 +116,7 @@ def claim(path):
     return {"above": 0, "event": "claim", "host": 3, "node": 0, "path": path}
 
 
-# Runs the words, and tells on standard error the seconds, the peak memory in KiB and the status. What the system says of a
+# Runs the words, and prints on standard error the seconds, the peak memory in KiB and the status. What the system says of a
 # process's peak is never less than what the process had that started it, so that a small one has to.
 RUN = """
 import os, subprocess, sys, time

@@ -1,6 +1,6 @@
 # What each Makefile of a tree that make-tree makes ends with. `dump-vars` prints the lines of a listing. `package` makes all packages
 # of the port at once in $OUT, of those that lie in $DEPS. Each has two files: `content`, which follows from the port and from the
-# contents of what it needs alone, so that it is the same whoever builds it and when; and `built-on`, the signatures that lay in $DEPS.
+# contents of what it needs alone, so that it is the same whoever builds it and when; and `built-on`, the signatures of what lay in $DEPS.
 .MAIN: package
 MULTI_PACKAGES ?= -
 SECONDS ?= 0
@@ -34,7 +34,7 @@ package:
 .  for path in ${NEEDS:S,/,:,g}
 	@test -f "$$DEPS/${path}/content" || { echo "*** ${path} is not installed" >&2; exit 1; }
 .  endfor
-	@cat "$$DEPS"/*/.signature 2>/dev/null | sort > saw || :
+	@sort "$${SIGNATURES:-/dev/null}" > saw
 .  for s in ${MULTI_PACKAGES}
 	@mkdir "$$OUT/${PKGPATH:S,/,:,g}${s:S/^-$//:S/^-/,-/}"
 	@cp saw "$$OUT/${PKGPATH:S,/,:,g}${s:S/^-$//:S/^-/,-/}/built-on"

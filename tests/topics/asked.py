@@ -1,6 +1,6 @@
-"""How much memory is asked for where texts that are no build come for a unit of which a long build is known: nothing of that is
-spelled for a text that doesn't begin as it does, or is shorter, and else hardly more than came. The same texts come for a unit of
-which nothing is known, which shows what reading them takes. That needs the program `probes` as it is built, which
+"""How much memory is requested if malformed builds arrive for a unit of which a long build is known. Nothing of that build is
+spelled for a text that begins otherwise, or is shorter, and hardly more than what arrived for others. The same texts arrive for a
+unit of which nothing is known, which shows the cost of reading them. That needs the program `probes` as it is built, which
 `tools/prove probes` builds: without it this topic is skipped."""
 import hashlib
 import os
@@ -20,12 +20,12 @@ PIECE = 32_768
 # how many empty files the known build has, each with as long a name as may be
 FILES = 900
 SHORT = 3_000
-# what may be asked for beside a known build by each text, besides what is spelled of that build
+# what may be asked for next to a known build by each text, besides what is spelled of that build
 FEW = 1_000
 
 
 def build(unit, host=3, size=0):
-    """The text of a build with the files, of which the last is said to have so many bytes."""
+    """The text of a build with the files, of which the last is said to have this many bytes."""
     path, name = unit
     lines = ["@dpb 1", f"@name {name}", f"@comment pkgpath={path}", f"@host {host}", "@claim 1.0"]
     for number in range(FILES):
@@ -33,7 +33,7 @@ def build(unit, host=3, size=0):
     return "".join(f"{line}\n" for line in [*lines, ""]).encode()
 
 
-# texts that are no build, by the unit; how often each comes; and what may be spelled for one
+# malformed builds, by the unit; how often each comes; and what may be spelled for one
 TEXTS = {
     "other bytes": (lambda unit: b"x" * SHORT, 20, lambda text: 0),
     "a build of another host, cut": (lambda unit: build(unit, host=4)[:SHORT], 20, lambda text: 0),
@@ -44,7 +44,7 @@ TEXTS = {
 
 
 def datagrams(unit, text):
-    """Lines that give node 0 the pieces in which member 1 tells that the build with the text is agreed."""
+    """Lines that give node 0 the pieces in which member 1 says that the build with the text is agreed."""
     path = unit[0].encode()
     front = b"DPB2" + bytes([5, 1]) + TREE + struct.pack(">H", len(path)) + path + struct.pack(">I", len(text))
     for number, start in enumerate(range(0, len(text), PIECE)):
@@ -52,7 +52,7 @@ def datagrams(unit, text):
 
 
 def row(unit, text, times):
-    """The text comes so often for the unit, behind the known build."""
+    """The text comes so often for the unit, after the known build."""
     lines = ["== nodes", "nodes 1 1 1", *(f"listing {path}.FULLPKGNAME={name}" for path, name in (KNOWN, UNKNOWN))]
     lines += [*datagrams(KNOWN, build(KNOWN)), f"knows 0 {KNOWN[0]}", *(times * list(datagrams(unit, text)))]
     return "".join(f"{line}\n" for line in lines).encode()
@@ -82,18 +82,18 @@ def problem(folder, text_of, times, may_be_spelled):
 
 
 def problem_again(folder):
-    """What is wrong with what the known build itself asks for, if anything: it is shared, and a text as long that is none is read."""
+    """What is wrong with what the known build itself asks for, if anything: it is shared, and a text as long that is not one is read."""
     again, read = (asked(folder, row(KNOWN, text, 3))[0] for text in (build(KNOWN), build(KNOWN, size=1)))
     return "" if again < read else f"{again} bytes are asked for, and {read} where it is read"
 
 
 def add(tally, name, problem, *given):
-    """Looks for a problem, where one is also that the program didn't end, or told nothing."""
+    """Looks for a problem, if one is also that the program didn't end, or reported nothing."""
     try:
         told = problem(*given)
     except (OSError, ValueError, subprocess.SubprocessError) as error:
         told = str(error)
-    tally.add(f"memory beside a known build, {name}", told)
+    tally.add(f"memory next to a known build, {name}", told)
 
 
 def run(tally):

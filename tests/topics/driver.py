@@ -1,6 +1,6 @@
-"""The program `probes`, the driver that answers rows of questions on the crates below: a line `== TOPIC` says whom the rows behind
-it ask. The gate doesn't prove it. Where it is built, and of the sources as they stand, it is run; else its sources are compiled without
-a proof, once for all texts that topics give it, and it is run by the kit on these."""
+"""The program `probes`, the driver that answers rows of questions on the crates below: a line `== TOPIC` says whom the rows after
+it ask. The gate doesn't prove it. If it is built from the current sources, it is run. Otherwise its sources are compiled
+without a proof, once for all texts of all topics, and the kit runs it."""
 import os
 import re
 import subprocess
@@ -64,7 +64,7 @@ def run_all(texts):
 
 
 def shown(out):
-    """The answers by the names of the cases, as the kit shows them: each behind a line `== NAME`."""
+    """The answers by the names of the cases, as the kit shows them: each after a line `== NAME`."""
     parts = re.split(rb"^== (text\d+)\n", out, flags=re.MULTILINE)
     return {name.decode(): answer for name, answer in zip(parts[1::2], parts[2::2])}
 

@@ -13,7 +13,7 @@ sys.path.insert(0, f"{TOP}/tools")
 
 import sources
 
-# what is noted of what was built: the programs, each by a file of its name, and what `make dist` tells of the gate that they passed
+# what is noted of what was built: the programs, each by a file of its name, and what `make dist` reports the gate that they passed
 BUILT = f"{TOP}/.built"
 
 
@@ -46,7 +46,7 @@ def judged():
 
 
 def note_built(began, last_lines):
-    """Notes that the programs are those of the sources of then, so that ./dpbr and ./dpbn need not build them again, and what was told."""
+    """Notes that the programs are those of the sources of then, so that ./dpbr and ./dpbn need not build them again, and what was reported."""
     os.makedirs(BUILT, exist_ok=True)
     for program in ("dpbr_quick", "dpbr", "dpbn"):
         open(f"{BUILT}/{program}", "w").close()
@@ -56,7 +56,7 @@ def note_built(began, last_lines):
 
 
 def run(tally):
-    """Runs `rt ci`, shows what it prints, tells how long it took for how much, and adds its counts."""
+    """Runs `rt ci`, shows what it prints, says how long it took for how much, and adds its counts."""
     began, before = time.time(), processor_seconds()
     gate = subprocess.Popen(["rt", "ci"], cwd=TOP, stdout=subprocess.PIPE, text=True)
     lines = []

@@ -1,158 +1,18 @@
-"""tools/build-jobs beside a node that is played here: it posts jobs in its work folder, takes what is handed in, and holds it on a log
-of its own. What runs are small scripts. And what tools/unpack-log makes of packages whose large files went another way."""
-import contextlib
+"""tools/build-jobs next to a node that is played (played.py): what is built on what, what fails, what is refused, and how it ends. And
+what tools/unpack-log makes of packages whose large files went another way."""
 import hashlib
-import importlib.machinery
-import importlib.util
-import json
 import os
 import re
+import shutil
 import signal
-import stat
 import subprocess
 import tempfile
 import time
-import types
 
-from topics import packages
-from topics.tally import TOP
-
-LIMIT = 60
-# the digest of the listing
-TREE = "5a" * 32
-# what each package was built with, as a file of it
-WRITE = 'for p in $PACKAGES; do d="$OUT/$(echo $p | tr / :)"; mkdir "$d" && ls "$DEPS" > "$d/saw" && cat "$DEPS"/*/.signature > "$d/on" 2>/dev/null; done; '
-BUILD = WRITE + "true"
-
-
-def name_of(task):
-    return hashlib.sha256(task.encode()).hexdigest()
-
-
-class Node:
-    """A node: its work folder, and its log."""
-
-    def __init__(self, folder, host=1):
-        self.folder, self.work, self.log, self.host = folder, f"{folder}/work", f"{folder}/log", host
-        for part in ("jobs", "done", "failed"):
-            os.makedirs(f"{self.work}/{part}")
-        self.posted, self.held = {}, {}
-
-    def open(self):
-        with open(self.log, "xb") as file:
-            file.write(packages.log([]))
-
-    def note(self, text, gate=b"\1"):
-        """Writes a note behind the last one, and then opens its gate."""
-        with open(self.log, "r+b") as file:
-            place = file.seek(-1, os.SEEK_END)
-            file.write(b"\0" + len(text).to_bytes(4, "big") + text + b"\0")
-            file.seek(place)
-            file.write(gate)
-
-    def post(self, unit, paths=(), built=(), run=()):
-        """Posts the job of a unit, on what is held of these paths, and answers its name."""
-        paths = paths or (unit,)
-        task = "".join([f"@tree {TREE}\n@unit {unit}\n", *(f"@package {path}\n" for path in paths), *(f"@built {self.held[path]}\n" for path in built)])
-        name = name_of(task)
-        self.posted[name] = unit, paths, [self.held[path] for path in built], list(run)
-        with open(f"{self.work}/jobs/.new", "w") as file:
-            file.write(task + f"@host {self.host}\n@claim 1.{self.host}\n")
-        os.rename(f"{self.work}/jobs/.new", f"{self.work}/jobs/{name}")
-        return name
-
-    def hold(self, unit, files, built=(), run=()):
-        """Holds a build, of these files by path."""
-        records = []
-        for path in sorted(files):
-            name = f"p{len(self.held)}-1"
-            own = [other for other in run if other != path]
-            records.append(packages.record(path, name, files[path], built=list(built), run=own, host=self.host, claim=f"1.{self.host}"))
-            self.held[path] = packages.signed(path, name, records[-1])
-        self.note(packages.note(4, unit, packages.build(*records)))
-
-    def files(self, name):
-        """What was handed in under a name, by path."""
-        with open(f"{self.work}/done/{name}", "rb") as file:
-            made = json.load(file)
-        return {path: [(file["name"], bytes.fromhex(file["hex"])) for file in made[path]] for path in made}
-
-    def take(self, name):
-        """Waits for what is handed in under a name, and holds it."""
-        if not until(lambda: os.path.exists(f"{self.work}/done/{name}")):
-            return {}
-        unit, _, built, run = self.posted[name]
-        files = self.files(name)
-        self.hold(unit, files, built, run)
-        return {path: dict(its) for path, its in files.items()}
-
-    def failed(self, name):
-        """Waits for the mark that a build failed, and answers what it says."""
-        return until(lambda: os.path.exists(f"{self.work}/failed/{name}")) and read(f"{self.work}/failed/{name}")
-
-    def is_forgotten(self, name):
-        return until(lambda: not any(os.path.exists(f"{self.work}/{part}/{name}") for part in ("jobs", "done", "failed")))
-
-
-def read(path):
-    with open(path, encoding="utf-8") as file:
-        return file.read()
-
-
-def until(holds, seconds=LIMIT):
-    """Waits until something holds, and answers whether it does."""
-    end = time.monotonic() + seconds
-    while not holds() and time.monotonic() < end:
-        time.sleep(0.02)
-    return holds()
-
-
-class Driver:
-    """build-jobs on a node's folder, with a script for each build."""
-
-    def __init__(self, node, script, *words, more=()):
-        self.out = f"{node.folder}/driver.{time.monotonic_ns()}"
-        with open(self.out, "xb") as out:
-            self.process = subprocess.Popen([f"{TOP}/tools/build-jobs", *words, node.work, node.log, "--", "sh", "-c", script, *more],
-                                            stdin=subprocess.DEVNULL, stdout=out, stderr=out, env={**os.environ, "TOP": node.folder})
-
-    def lines(self):
-        """What it told, without the times."""
-        return [re.sub("^[0-9:]{8} ", "", line) for line in read(self.out).splitlines()]
-
-    def tells(self, line):
-        return until(lambda: any(re.fullmatch(line, told) for told in self.lines()))
-
-    def end(self, number=signal.SIGTERM):
-        if self.process.poll() is None:
-            self.process.send_signal(number)
-        return self.process.wait(LIMIT)
-
-
-@contextlib.contextmanager
-def laid(script, *words, more=()):
-    """A node that has just opened its log, and a driver that works for it, with more words for the script."""
-    with tempfile.TemporaryDirectory() as folder:
-        node = Node(folder)
-        node.open()
-        driver = Driver(node, script, *words, more=more)
-        try:
-            yield node, driver
-        finally:
-            driver.end(signal.SIGKILL)
-
-
-def is_alive(folder, word):
-    """Whether the process still runs whose number a build left in this file."""
-    try:
-        os.kill(int(read(f"{folder}/{word}")), 0)
-    except ProcessLookupError:
-        return False
-    return True
-
-
-def add(tally, name, right, told=""):
-    tally.add(f"build-jobs, {name}", "" if right else f"it isn't so: {told!r:.600}")
+from topics import job_faults, job_files, job_health, job_limits, job_records, job_reuse, packages
+from topics.nodes import beside
+from topics.played import BUILD, LIMIT, SLOW, TREE, WRITE, Driver, Node, add, has_text, is_alive, laid, name_of, read, until
+from topics.tally import TESTS, TOP
 
 
 def chain(tally):
@@ -190,7 +50,7 @@ def failures(tally):
     """What fails is marked with why and its log, and built again once the mark is gone; each answer that is none fails."""
     with laid('echo told; [ -e "$TOP/mended" ] || exit 3; ' + BUILD) as (node, driver):
         name = node.post("a/b")
-        why, log = node.failed(name), f"{os.path.realpath(node.work)}/logs/a:b.log"
+        why, log = node.failed(name), f"{os.path.realpath(node.work)}/logs/failed/a:b.log"
         add(tally, "a build that fails", why == f"a/b: status 3\n{log}\n", why)
         add(tally, "the same, told", driver.tells(re.escape(f"! a/b failed after 0 s: status 3, see {log}")), driver.lines())
         add(tally, "the same, its log", read(log).endswith("told\n"), read(log))
@@ -221,8 +81,9 @@ def odd_jobs(tally):
             with open(f"{node.work}/jobs/{name}", "w") as file:
                 file.write(text + "@host 1\n@claim 1.1\n")
         driver = Driver(node, BUILD)
-        for what, name in (("of another name", "0" * 64), ("without its tree", name_of(text))):
-            add(tally, f"a job {what}", driver.tells(re.escape(f"? jobs/{name} is no job: its name isn't that of its text, or a line is lacking")), driver.lines())
+        for what, name, why in (("of another name", "0" * 64, "its name isn't that of its text"),
+                                ("without its tree", name_of(text), "it doesn't begin with its tree, or a line is lacking")):
+            add(tally, f"a job {what}", driver.tells(re.escape(f"? jobs/{name} is no job: {why}")), driver.lines())
         node.open()
         node.hold("a/b", {"a/b": []})
         node.note(packages.note(4, "c/d", packages.build(packages.record("c/d", "p1-1", []))), gate=b"\0")
@@ -241,44 +102,42 @@ def odd_jobs(tally):
     with laid(BUILD) as (node, driver):
         node.note(b"\7bad")
         status = driver.process.wait(LIMIT)
-        add(tally, "a bad log", status == 1 and driver.lines()[-1].startswith(f"build-jobs: {node.log}: a note's kind is 7 at"), (status, driver.lines()))
-
-
-SLOW = 'echo $$ > "$TOP/pid"; until [ -e "$TOP/go" ]; do sleep 0.05; done; ' + BUILD
+        is_told = driver.tells(re.escape(f"? {node.log}: a note's kind is 7 at 48: it is read again"))
+        add(tally, "a bad log", is_told and status == 1 and driver.lines()[-1] == f"build-jobs: {node.log}: a note's kind is 7 at 48", (status, driver.lines()))
 
 
 def drivers_that_end(tally):
-    """By a signal its builds end with it; killed, one runs on, in a folder at which nobody looks. Run again it goes on."""
+    """By a signal its builds end with it. Killed, they run on, and the next one hands in what comes of them."""
     with laid(SLOW) as (node, driver):
         name = node.post("a/b")
-        until(lambda: os.path.exists(f"{node.folder}/pid"))
+        until(lambda: has_text(f"{node.folder}/pid"))
         second = Driver(node, BUILD)
         told = second.process.wait(LIMIT), second.lines()
-        add(tally, "a second one on the folder", told == (1, [f"build-jobs: another one works on {node.work}"]), told)
+        add(tally, "a second one on the folder", told == (1, [f"build-jobs: another one works on {os.path.realpath(node.work)}"]), told)
         ended = [driver.end()]
         add(tally, "a signal", ended == [143] and not is_alive(node.folder, "pid") and os.listdir(f"{node.work}/build") == [], (ended, os.listdir(f"{node.work}/build")))
         add(tally, "a signal, its job", os.listdir(f"{node.work}/jobs") == [name] and not os.listdir(f"{node.work}/failed"), os.listdir(f"{node.work}/failed"))
         os.unlink(f"{node.folder}/pid")
         killed = Driver(node, SLOW)
-        until(lambda: os.path.exists(f"{node.folder}/pid") and read(f"{node.folder}/pid"))
+        until(lambda: has_text(f"{node.folder}/pid"))
         killed.end(signal.SIGKILL)
         left = os.listdir(f"{node.work}/build")
         add(tally, "a build that outlives it", is_alive(node.folder, "pid") and len(left) == 1, left)
-        for half in (f"done/.{name}.build-jobs", f"failed/.{name}.build-jobs", f"failed/.{name}.1"):
+        add(tally, "that it has begun", os.listdir(f"{node.work}/begun") == [name], os.listdir(f"{node.work}/begun"))
+        for half in (f"done/.{name}.build-jobs", f"failed/.{name}.build-jobs", f"failed/.{name}.1", f"begun/{'1' * 64}"):
             with open(f"{node.work}/{half}", "w") as file:
                 file.write("{")
-        again = Driver(node, 'mkdir "$OUT/$(echo $PKGPATH | tr / :)" && if [ $PKGPATH = a/b ]; then echo again > "$OUT/a:b/x"; fi')
-        told = again.tells(re.escape(f"= a build of an earlier run goes on in {os.path.realpath(node.work)}/build/{left[0]}"))
-        add(tally, "the next one tells it", told, again.lines())
-        other = node.take(node.post("c/d")), is_alive(node.folder, "pid"), [line for line in again.lines() if line.startswith("> a/b")]
-        add(tally, "a unit of which a build goes on", other == ({"c/d": {}}, True, []), other)
+        again = Driver(node, 'mkdir "$OUT/$(echo $PKGPATH | tr / :)"', "-j", "2")
+        add(tally, "the next one tells it", again.tells("= a build of a/b goes on, which an earlier run began"), again.lines())
+        other = node.take(node.post("c/d")), is_alive(node.folder, "pid"), again.begun("a/b"), os.listdir(f"{node.work}/begun")
+        add(tally, "a unit of which a build goes on", other[:3] == ({"c/d": {}}, True, 0) and name in other[3] and "1" * 64 not in other[3], other)
         with open(f"{node.folder}/go", "w"):
             made = node.take(name)
-        is_over = until(lambda: not is_alive(node.folder, "pid"))
-        add(tally, "what is handed in", is_over and made == {"a/b": {"x": b"again\n"}} and node.is_forgotten(name), made)
+        add(tally, "what is handed in", made == {"a/b": {"saw": b"", "on": b""}} and node.is_forgotten(name) and again.begun("a/b") == 0, made)
         left = os.listdir(f"{node.work}/done"), os.listdir(f"{node.work}/failed")
         add(tally, "what was half written, and not by the node", left == ([], [f".{name}.1"]), left)
         add(tally, "what outlived is removed", until(lambda: os.listdir(f"{node.work}/build") == []), os.listdir(f"{node.work}/build"))
+        add(tally, "nothing has begun", os.listdir(f"{node.work}/begun") == [], os.listdir(f"{node.work}/begun"))
         again.end()
 
 
@@ -293,49 +152,33 @@ def ends_of_builds(tally):
             end(node, driver)
             right = until(lambda: os.path.exists(f"{node.folder}/cleaned")) and until(lambda: os.listdir(f"{node.work}/build") == [])
             add(tally, f"{what}, what a build cleans up", right and not os.path.exists(f"{node.work}/failed/{name}"), driver.lines())
-    with laid(BUILD) as (node, driver):
-        until(lambda: os.path.exists(f"{node.work}/lock"))
-        os.rename(f"{node.work}/done", f"{node.folder}/done")
-        # a folder in which nothing can be made
-        os.symlink("/proc", f"{node.work}/done")
+    with laid(SLOW) as (node, driver):
         name = node.post("a/b")
-        driver.tells("[?] a/b waits: .*")
+        until(lambda: has_text(f"{node.folder}/pid"))
+        os.rename(f"{node.work}/done", f"{node.folder}/done")
+        with open(f"{node.work}/done", "w"), open(f"{node.folder}/go", "w"):
+            driver.tells("[?] a/b waits: .*")
         os.unlink(f"{node.work}/done")
         os.rename(f"{node.folder}/done", f"{node.work}/done")
         status = driver.end()
         add(tally, "a signal, what is over", status == 143 and os.path.exists(f"{node.work}/done/{name}"), (status, driver.lines()))
-    with tempfile.TemporaryDirectory() as folder:
-        module = build_jobs()
-        os.makedirs(f"{folder}/x/ports")
-        told, module.told_by = module.told_by, lambda *_: f"/dev/sd0a on {os.path.realpath(folder)}/x/ports type ffs (local)\n".encode()
-        kept = not any(module.remove_folder(f"{folder}/{it}") for it in ("x", "x/ports")) and os.path.isdir(f"{folder}/x/ports")
-        module.told_by = told
-        add(tally, "a folder in which something is mounted", kept and module.remove_folder(f"{folder}/x"))
 
 
 def nodes_that_go_on(tally):
     """What another node built meanwhile is dropped, and so is a job that is taken away."""
     with laid(SLOW) as (node, driver):
         name = node.post("a/b")
-        until(lambda: os.path.exists(f"{node.folder}/pid") and read(f"{node.folder}/pid"))
+        until(lambda: has_text(f"{node.folder}/pid"))
         node.hold("a/b", {"a/b": []})
         told = driver.tells("- a/b: another node built it")
         add(tally, "a unit that is held", told and node.is_forgotten(name) and not is_alive(node.folder, "pid"), driver.lines())
         os.unlink(f"{node.folder}/pid")
         name = node.post("c/d")
-        until(lambda: os.path.exists(f"{node.folder}/pid") and read(f"{node.folder}/pid"))
+        until(lambda: has_text(f"{node.folder}/pid"))
         os.unlink(f"{node.work}/jobs/{name}")
         add(tally, "a job that is taken away", driver.tells("- c/d: its job was taken away") and not is_alive(node.folder, "pid"), driver.lines())
         driver.end()
         add(tally, "what was dropped", driver.lines()[-1] == "0 built, 0 failed, 2 dropped", driver.lines())
-
-
-def build_jobs():
-    """The tool as a module, so that calls of the system can be refused."""
-    loader = importlib.machinery.SourceFileLoader("build_jobs", f"{TOP}/tools/build-jobs")
-    module = importlib.util.module_from_spec(importlib.util.spec_from_loader(loader.name, loader))
-    loader.exec_module(module)
-    return module
 
 
 # folders in folders, more than a path may name
@@ -343,7 +186,7 @@ DEEP = 'if [ $PKGPATH = c/d ]; then cd "$OUT/c:d" && python3 -c "import os\nfor 
 
 
 def builds_that_misbehave(tally):
-    """What a build leaves behind ends with it; what can't be read fails it, and nothing else; and how it is named ends nothing."""
+    """What a build leaves after ends with it; what can't be read fails it, and nothing else; and how it is named ends nothing."""
     with laid('sleep 1000 & echo $! > "$TOP/left"; ' + BUILD) as (node, driver):
         made = node.take(node.post("a/b"))
         add(tally, "what a build left running", bool(made) and until(lambda: not is_alive(node.folder, "left")), made)
@@ -353,13 +196,13 @@ def builds_that_misbehave(tally):
         add(tally, "its log", any(re.fullmatch("a:x{198}[.][0-9a-f]{16}[.]log", name) for name in logs), logs)
     with laid(WRITE + DEEP) as (node, driver):
         why = node.failed(node.post("c/d"))
-        add(tally, "what can't be read", bool(why) and why.startswith("c/d: what it made can't be read: "), (why, driver.lines()))
+        add(tally, "folders too deep", bool(why) and why.startswith("c/d: ") and "no record takes a file of this name" in why, (why, driver.lines()))
         add(tally, "the next one", bool(node.take(node.post("a/b"))) and driver.process.poll() is None, driver.lines())
         add(tally, "its folder", until(lambda: os.listdir(f"{node.work}/build") == []), os.listdir(f"{node.work}/build"))
 
 
 def what_the_system_refuses(tally):
-    """What can't be written is told, and tried again; a host that stops leaves no mark; a folder that was made anew ends it."""
+    """What can't be written is reported, and tried again; a host that stops leaves no mark; a folder that was made anew ends it."""
     with laid(BUILD) as (node, driver):
         until(lambda: os.path.exists(f"{node.work}/lock"))
         os.rename(f"{node.work}/done", f"{node.work}/gone")
@@ -372,17 +215,17 @@ def what_the_system_refuses(tally):
         os.rename(f"{node.work}/gone", f"{node.work}/done")
         add(tally, "the same once it is there", bool(node.take(name)), driver.lines())
     with laid(BUILD) as (node, driver):
-        os.mkdir(f"{node.work}/away")
+        os.mkdir(f"{node.work}/elsewhere")
         until(lambda: os.path.exists(f"{node.work}/lock"))
         with open(f"{node.work}/logs/a:b.log", "w"):
-            os.rename(f"{node.work}/logs", f"{node.work}/away/logs")
+            os.rename(f"{node.work}/logs", f"{node.work}/elsewhere/logs")
         name = node.post("a/b")
         add(tally, "a log that can't be written", driver.tells("[?] a/b waits: .*logs/a:b.log.*") and os.listdir(f"{node.work}/build") == [], driver.lines())
-        os.rename(f"{node.work}/away/logs", f"{node.work}/logs")
+        os.rename(f"{node.work}/elsewhere/logs", f"{node.work}/logs")
         add(tally, "the same once it can", bool(node.take(name)), driver.lines())
     with laid(SLOW) as (node, driver):
         name = node.post("a/b")
-        until(lambda: os.path.exists(f"{node.folder}/pid") and read(f"{node.folder}/pid"))
+        until(lambda: has_text(f"{node.folder}/pid"))
         os.kill(int(read(f"{node.folder}/pid")), signal.SIGTERM)
         time.sleep(0.3)
         ended = driver.end()
@@ -390,7 +233,7 @@ def what_the_system_refuses(tally):
         add(tally, "a build that is ended just before it", (ended, left) == (143, ([], [name], [])), (ended, left, driver.lines()))
     with laid(SLOW) as (node, driver):
         node.post("a/b")
-        until(lambda: os.path.exists(f"{node.folder}/pid") and read(f"{node.folder}/pid"))
+        until(lambda: has_text(f"{node.folder}/pid"))
         os.rename(node.work, f"{node.folder}/old")
         os.mkdir(node.work)
         status = driver.process.wait(LIMIT)
@@ -399,7 +242,7 @@ def what_the_system_refuses(tally):
 
 
 def what_is_no_job(tally):
-    """What stands among the jobs and is none, whatever it is and says, keeps no other job back."""
+    """Something that isn't a job keeps no other job back."""
     odd = {"a name of other bytes": b"@unit a/\xff\n@package a/b\n", "a name with a zero byte": b"@unit a/b\n@package a/\0\n", "no path": b"@unit ../x\n@package ../x\n"}
     with laid(BUILD) as (node, driver):
         for what, text in (*odd.items(), ("no host", b"@unit a/c\n@package a/c\n@host x\n")):
@@ -418,7 +261,7 @@ def what_is_no_job(tally):
 
 
 def where_it_stands(tally):
-    """A work folder may have any name; what can't be told, since its output is full, or nobody reads it, keeps nothing back."""
+    """A work folder may have any name; what can't be reported, since its output is full, or nobody reads it, keeps nothing back."""
     with tempfile.TemporaryDirectory() as folder:
         os.mkdir(f"{folder}/w\udcff")
         node = Node(f"{folder}/w\udcff")
@@ -427,7 +270,7 @@ def where_it_stands(tally):
         why = until(lambda: bool(os.listdir(f"{node.work}/failed"))) if node.post("a/b") else ""
         add(tally, "a work folder of other bytes", bool(why) and driver.process.poll() is None, os.listdir(f"{node.work}/failed"))
         driver.end()
-    for what, number in (("a full disk", os.open("/dev/full", os.O_WRONLY)), ("nobody", unread())):
+    for what, number in ([("a full disk", os.open("/dev/full", os.O_WRONLY))] if os.path.exists("/dev/full") else []) + [("nobody", unread())]:
         with tempfile.TemporaryDirectory() as folder:
             node = Node(folder)
             node.open()
@@ -451,87 +294,8 @@ def unread():
     return writes
 
 
-def refused_reads(tally):
-    """A note of which something couldn't be read is taken again."""
-    module = build_jobs()
-    with tempfile.TemporaryDirectory() as folder:
-        node = Node(folder)
-        node.open()
-        node.hold("a/b", {"a/b": [("x.sha256", f"SHA256 (x) = {'0' * 64}\nSIZE (x) = 5\n".encode())]})
-        held, large_in = module.Held(node.log), module.unpack.large_in
-        module.unpack.large_in = lambda *_: (_ for _ in ()).throw(OSError("refused"))
-        with contextlib.suppress(OSError):
-            held.look()
-        module.unpack.large_in = large_in
-        held.look()
-        add(tally, "a note of which a read was refused", list(held.records) == [b"a/b"] and held.units == {b"a/b"}, (held.records, held.units))
-        with open(node.log, "r+b") as file:
-            file.truncate(0)
-            file.write(packages.log([]))
-        held.look()
-        add(tally, "a log that is begun anew in place", (held.records, held.units) == ({}, set()), held.units)
-
-
-def told_once(tally):
-    """What the system refuses again is told again only where it is something else."""
-    module, lines = build_jobs(), []
-    driver = object.__new__(module.Driver)
-    driver.due, driver.told, driver.tell = {}, set(), lines.append
-    for number, place in ((28, "build/x.1"), (28, "build/x.2"), (13, "build/x.3")):
-        driver.put_off("name", "a/b waits", OSError(number, "refused", place))
-    wanted = [f"? a/b waits: [Errno {number}] refused: 'build/x.{count}'" for number, count in ((28, 1), (13, 3))]
-    add(tally, "what is refused again", lines == wanted, lines)
-
-
-def odd_fetches(tally):
-    """A fetch that leaves no file leaves nothing, and says why; and a file that somebody is about to put into the store stays."""
-    module, none = build_jobs(), hashlib.sha256(b"").hexdigest()
-    for what, command, digest in (("a folder", 'mkdir "$TARGET"', "0" * 64), ("a link", 'ln -s /dev/null "$TARGET"', none), ("nothing", "echo why >&2; false", none)):
-        with tempfile.TemporaryDirectory() as folder:
-            store = module.Store(f"{folder}/store", command, folder, f"{folder}/log")
-            large = types.SimpleNamespace(digest=digest, size=0, name=b"big")
-            store.get(large, b"1")
-            is_over = until(lambda: store.look() or not store.fetches)
-            left, told = os.listdir(store.folder), read(f"{folder}/log")
-            right = is_over and store.is_missed(large) and left == [] and told == ("why\n" if what == "nothing" else "")
-            add(tally, f"a fetch that leaves {what}", right, (left, told))
-    with tempfile.TemporaryDirectory() as folder:
-        store, large = module.Store(folder, None, folder), types.SimpleNamespace(digest=packages.digest(b"large"), size=5, name=b"big")
-        found = []
-        for text in (b"lar", b"large", b"LARGE"):
-            with open(f"{folder}/{large.digest}", "wb") as file:
-                file.write(text)
-            found.append((store.has(large), os.listdir(folder) != []))
-        add(tally, "a file that is put there bit by bit", found == [(False, True), (True, True), (False, False)], found)
-
-
-def on_the_disk(tally):
-    """What is written for the node, or kept in the store, is whole and on the disk before it has its name, and then its folder is."""
-    module, calls, fsync, rename = build_jobs(), [], os.fsync, os.rename
-
-    def synced(number):
-        it = os.fstat(number)
-        calls.append("folder" if stat.S_ISDIR(it.st_mode) else it.st_size)
-        fsync(number)
-
-    def renamed(old, new):
-        calls.append("rename")
-        rename(old, new)
-
-    with tempfile.TemporaryDirectory() as folder:
-        with open(f"{folder}/source", "wb") as file:
-            file.write(b"large" * 10_000)
-        try:
-            os.fsync, os.rename = synced, renamed
-            module.put(folder, "name", ["x" * 10_000, "y" * 10_000])
-            module.Store(folder, None, folder).keep(f"{folder}/source", digest_of(f"{folder}/source"))
-        finally:
-            os.fsync, os.rename = fsync, rename
-    add(tally, "what is written, the system's calls", calls == [20_000, "rename", "folder", 50_000, "rename", "folder"], calls)
-
-
 def commands(tally):
-    """A command is found from where build-jobs is started, and one that isn't there is told at once."""
+    """A command is found from where build-jobs is started, and one that isn't there is reported at once."""
     with laid(BUILD + '; echo "$0 $@" > "$OUT/a:b/words"', more=("--", "x", "--", "-j", "--")) as (node, driver):
         made = node.take(node.post("a/b"))
         add(tally, "a command's words", made.get("a/b", {}).get("words") == b"-- x -- -j --\n", (made, driver.lines()))
@@ -557,28 +321,7 @@ def commands(tally):
         add(tally, "a command that isn't there", right, (done.returncode, done.stderr))
 
 
-def not_allowed(tally):
-    """A build that may not be ended, as where it runs as another user, keeps its folder, and nobody waits for it."""
-    module, told = build_jobs(), []
-    module.LONGEST_END = 0.2
-    with tempfile.TemporaryDirectory() as folder:
-        build = object.__new__(module.Build)
-        build.folder, build.lock, build.ended = folder, open(f"{folder}/lock", "w"), None
-        build.driver = type("Driver", (), {"tell": lambda _, line: told.append(line)})()
-        build.process = subprocess.Popen(["sleep", "60"], start_new_session=True)
-        killpg = os.killpg
-        try:
-            os.killpg = lambda *_: (_ for _ in ()).throw(PermissionError())
-            build.end()
-        finally:
-            os.killpg = killpg
-        left = build.process.poll() is None and os.path.isdir(folder)
-        add(tally, "a build that may not be ended", left and told == [f"= a build that can't be ended goes on in {folder}"], told)
-        build.process.kill()
-        build.process.wait()
-
-
-LARGE = 134_217_728
+LARGE = 33_554_432
 
 
 def stored(folder):
@@ -624,17 +367,17 @@ def fetched(tally, nodes, digest):
     get = f'echo $HOST $SIZE $NAME >> "{nodes[1].folder}/asked"; if [ -e "{nodes[1].folder}/up" ]; then cp "{nodes[0].work}/store/$SHA256" "$TARGET"; else head -c $SIZE /dev/zero > "$TARGET"; fi'
     second = Driver(nodes[1], see, "--digests", "1000000", "--fetch", get)
     name = nodes[1].post("a/z", built=["a/x", "a/y"])
-    told = second.tells(re.escape(f"? a/z waits for big of a/x, {digest}, of host 1"))
+    told = second.tells("[?] a/z waits for big of a/[xy], [0-9a-f]{64}, of host 1.*")
     store = f"{nodes[1].work}/store"
-    # the other's is fetched right behind it, and stands there half till it is hashed
-    whole = [it for it in os.listdir(store) if not it.startswith(".")]
-    is_gone = until(lambda: not os.listdir(store))
-    add(tally, "a file that comes wrong", told and not whole and is_gone, (second.lines(), whole, os.listdir(store)))
+    aside = until(lambda: os.path.exists(f"{store}/wrong/{digest}.host1")) and os.path.getsize(f"{store}/wrong/{digest}.host1") == LARGE
+    # what comes next is half there till it is hashed
+    whole = [it for it in os.listdir(store) if not it.startswith(".") and it != "wrong"]
+    add(tally, "a file that comes wrong", told and aside and not whole, (second.lines(), whole, os.listdir(store)))
     with open(f"{nodes[1].folder}/up", "w"):
         made = nodes[1].take(name)
     add(tally, "a file that comes", made == {"a/z": {"saw": b"a:x:\nbig\nsmall\n\na:y:\nbig\nsmall\n", "size": b"%d\n" % (2 * LARGE)}}, made)
     asked = set(read(f"{nodes[1].folder}/asked").splitlines())
-    add(tally, "what is asked for", asked == {f"1 {LARGE} big"}, asked)
+    add(tally, "who is asked", f"1 {LARGE} big" in asked and asked <= {f"{host} {LARGE} big" for host in range(3)}, asked)
     second.end()
     os.chmod(f"{store}/{digest}", 0o644)
     with open(f"{store}/{digest}", "r+b") as file:
@@ -642,12 +385,13 @@ def fetched(tally, nodes, digest):
     third = Driver(nodes[1], see, "--digests", "1000000")
     nodes[1].post("a/zz", built=["a/x", "a/y"])
     told = third.tells(re.escape(f"? a/zz waits for big of a/x, {digest}, of host 1"))
-    add(tally, "a file of the store that was changed", told and digest not in os.listdir(store), third.lines())
+    aside = os.path.exists(f"{store}/wrong/{digest}") and digest_of(f"{store}/wrong/{digest}") != digest
+    add(tally, "a file of the store that was changed", told and digest not in os.listdir(store) and aside, third.lines())
     third.end()
 
 
 def unpacked(tally, node, names):
-    """unpack-log with the store makes whole packages; what the store has not, or has otherwise, stays as it was, and is told."""
+    """unpack-log with the store makes whole packages; what the store has not, or has otherwise, stays as it was, and is reported."""
     store = f"{node.work}/store"
     said = packages.tool("unpack-log", "--store", store, node.log, f"{node.folder}/out")
     whole = {path: sorted(os.listdir(f"{node.folder}/out/{path}")) for path in ("a:x", "a:y")}
@@ -665,7 +409,7 @@ def unpacked(tally, node, names):
 
 
 def stand_ins(tally):
-    """Only what names its own file stands for one, and only where that has a place."""
+    """Only what names its own file replaces one, and only where that has a place."""
     told = {name: f"SHA256 ({name}) = {packages.digest(b'large')}\nSIZE ({name}) = 5\n".encode() for name in ("x", "w/v", "u")}
     files = [("x", b"x"), ("x.sha256", told["x"]), ("y.sha256", told["x"]), ("w/v.sha256", told["w/v"]), ("u.sha256", told["u"]), ("u/t", b"t")]
     with tempfile.TemporaryDirectory() as folder:
@@ -682,31 +426,58 @@ def stand_ins(tally):
 
 
 def words(tally):
-    """Wrong words are told, and nothing is made."""
+    """Wrong words are reported, and nothing is made."""
     with tempfile.TemporaryDirectory() as folder:
         for wrong in (["-j", "0"], ["-j", "65"], ["--digests", "x"], []):
             said = packages.tool("build-jobs", *wrong, f"{folder}/work", *([f"{folder}/log", "--", "true"] if wrong else []))
             add(tally, f"the words {' '.join(wrong)}", said[2] == 2 and os.listdir(folder) == [], said)
 
 
+def installed(tally):
+    """The tools find their modules where they are installed, also through a link."""
+    with tempfile.TemporaryDirectory() as folder:
+        os.makedirs(f"{folder}/bin")
+        for name in ("build-jobs", "make-builds", "unpack-log"):
+            shutil.copy(f"{TOP}/tools/{name}", f"{folder}/bin/{name}")
+        shutil.copytree(f"{TOP}/tools/dpbn_tools", f"{folder}/share/dpbn/dpbn_tools", ignore=shutil.ignore_patterns("__pycache__"))
+        os.symlink("bin", f"{folder}/link")
+        for name in ("build-jobs", "make-builds", "unpack-log"):
+            done = subprocess.run([f"{folder}/link/{name}", "--help"], cwd="/", capture_output=True, text=True, timeout=LIMIT)
+            right = done.returncode == 0 and done.stdout.startswith(f"usage: {name} ")
+            tally.add(f"{name}, installed", "" if right else f"{done.stdout:.300} {done.stderr:.300}")
+
+
+def unit_tests(tally):
+    """The parts of the tools one by one, and their types and style, as far as the programs for that are here."""
+    python = "3.8"
+    for name, words in (("pytest", ["-q", "-p", "no:cacheprovider", f"{TESTS}/unit"]), ("mypy", ["--strict", "--python-version", python, "--cache-dir", os.devnull, f"{TOP}/tools/dpbn_tools"]),
+                        ("flake8", ["--max-line-length", "140", f"{TOP}/tools/dpbn_tools", f"{TOP}/tools/build-jobs", f"{TOP}/tools/make-builds"])):
+        found = next((path for path in map(shutil.which, (f"/usr/bin/{name}", name, f"{name}-3")) if path), None)
+        if not found:
+            tally.skip(f"{name} on the tools", f"there is no {name} here")
+            continue
+        done = subprocess.run([found, *words], cwd=TOP, capture_output=True, text=True, timeout=300)
+        tally.add(f"{name} on the tools", "" if done.returncode == 0 else (done.stdout + done.stderr)[-3000:])
+
+
+def first(tally):
+    for one in (installed, words, chain, side_by_side, failures, what_is_no_job, where_it_stands, drivers_that_end):
+        one(tally)
+
+
+def second(tally):
+    for one in (ends_of_builds, nodes_that_go_on, builds_that_misbehave, what_the_system_refuses, commands):
+        one(tally)
+
+
+def third(tally):
+    for one in (odd_jobs, large, stand_ins):
+        one(tally)
+
+
 def run(tally):
-    words(tally)
-    chain(tally)
-    side_by_side(tally)
-    failures(tally)
-    odd_jobs(tally)
-    what_is_no_job(tally)
-    where_it_stands(tally)
-    refused_reads(tally)
-    told_once(tally)
-    odd_fetches(tally)
-    on_the_disk(tally)
-    drivers_that_end(tally)
-    ends_of_builds(tally)
-    nodes_that_go_on(tally)
-    builds_that_misbehave(tally)
-    what_the_system_refuses(tally)
-    commands(tally)
-    not_allowed(tally)
-    large(tally)
-    stand_ins(tally)
+    # what depends on how fast it goes is by itself
+    job_files.many_that_wait(tally)
+    beside(tally, (first, second, third, job_faults.run_third, job_limits.run_second, job_records.run))
+    beside(tally, (unit_tests, job_faults.run_first, job_faults.run_second, job_files.run_first, job_files.run_second, job_limits.run_first,
+                   job_health.run, job_reuse.run))

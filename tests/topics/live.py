@@ -1,8 +1,7 @@
 """`dpbn build` with tools/build-jobs: hosts that build a tree of Makefiles together, nodes and drivers that are killed meanwhile,
-ports that fail and are mended, a host that comes late, answers that are none, how much is sent where nothing happens, and a long
+ports that fail and are mended, a host that comes late, malformed answers, how much is sent if nothing happens, and a long
 run."""
 import contextlib
-import fcntl
 import functools
 import hashlib
 import json
@@ -28,14 +27,14 @@ LIMIT = 300
 # how much more memory a long run may have at its end than after its first part, in kB: of what is kept to be used again some
 # pages more may have been touched
 SPARE = 64
-# how long a turn waits of the last of nine members, where no patience is told and nothing comes, in milliseconds (dpbn(1): 20 times
-# 1 + 8/2), and how many such turns an hour has: a day of that member has the fewest, 864,000
+# How long a turn of the last of nine members waits by default if nothing arrives, in milliseconds (dpbn(1): 20 times
+# 1 + 8/2), and how many such turns an hour has. A day of that member has the fewest, 864,000.
 WAIT, HOUR = 100, 36_000
 # how many bytes a large file has
 LARGE = 134_217_728
 # how long is waited for such a day, in seconds, and how many hours of it there have to be by then
 LONGEST_DAY, LEAST_HOURS = 45, 6
-# how many bytes a log may have, and how many before it is told how many it has (dpbn(1))
+# how many bytes a log may have, and from how many on that is reported (dpbn(1))
 MOST_OF_A_LOG, NEARLY_FULL = 2_147_483_648, 2_147_483_648 // 10 * 9
 
 
@@ -50,7 +49,7 @@ def until(holds, seconds=LIMIT, nap=0.02):
 
 
 def check(tally, name, right, *told):
-    """One more test, which passed if that is right; else it is told what was seen."""
+    """One more test, which passed if that is right; otherwise what was seen is reported."""
     tally.add(name, "" if right else " ".join(f"{it!r:.800}" for it in told) or "it isn't so")
 
 
@@ -108,16 +107,16 @@ class Host:
                 process.wait()
 
     def end(self):
-        """Ends both, and waits for builds that outlived a driver: their folders are locked as long as they run."""
+        """Ends both, and waits for builds that outlived a driver: somebody reads their FIFOs as long as they run."""
         self.unlock()
         for process in (self.driver, self.node):
             if process and process.poll() is None:
                 process.terminate()
                 process.wait(LIMIT)
-        until(lambda: not any(is_locked(f"{self.work}/build/{name}/lock") for name in names_in(f"{self.work}/build")))
+        until(lambda: not any(is_read(f"{self.work}/build/{name}/control") for name in names_in(f"{self.work}/build")))
 
     def lines(self):
-        """What the node told on standard error since it was started."""
+        """What the node printed on standard error since it was started."""
         return contents(self.out("err"))[self.began:].split(b"\n")[:-1]
 
     def jobs_of(self):
@@ -133,7 +132,7 @@ class Host:
         return contents(self.out("driver")).count(b" > ") if os.path.exists(self.out("driver")) else 0
 
     def holds_all(self):
-        """Whether it told last that it holds all that isn't ignored."""
+        """Whether it printed last that it holds all that isn't ignored."""
         told = [it for it in map(LINE.fullmatch, self.lines()) if it]
         return bool(told) and told[-1].groups()[1:] == self.run.all_held()
 
@@ -142,15 +141,13 @@ def names_in(folder):
     return sorted(os.listdir(folder)) if os.path.isdir(folder) else []
 
 
-def is_locked(path):
+def is_read(path):
+    """Whether somebody reads the FIFO."""
     try:
-        with open(path) as lock:
-            fcntl.flock(lock, fcntl.LOCK_EX | fcntl.LOCK_NB)
-    except BlockingIOError:
-        return True
+        os.close(os.open(path, os.O_WRONLY | os.O_NONBLOCK))
     except OSError:
-        pass
-    return False
+        return False
+    return True
 
 
 class Run:
@@ -180,8 +177,8 @@ class Run:
         self.hosts = [Host(self, me) for me in range(members)]
 
     def alone(self):
-        """How long one host takes that builds the ports one after the other, and how long the longest chain of builds is of which
-        each needs the one before, in seconds; what a build takes beside its wait is that of a serial build, on the average."""
+        """How long one host takes to build the ports one after the other, in seconds, and how long the longest chain of dependent
+        builds takes. What a build takes besides its wait is the average of a serial build."""
         texts = {port: contents(f"{self.folder}/tree/{port}/Makefile").decode() for port in self.ports}
         texts = {port: text for port, text in texts.items() if "IGNORE = " not in text}
         each, needs = self.makes / len(self.ports), needs_of(contents(f"{self.folder}/listing"))
@@ -194,7 +191,7 @@ class Run:
         return sum(takes.values()), max(chain.values())
 
     def all_held(self):
-        """What a node's line says where all is held that isn't ignored."""
+        """A node's line if everything that isn't ignored is held."""
         return tuple(b"%d" % it for it in (len(self.paths), 0, 0, 0, self.ignored))
 
     def start(self, *words):
@@ -203,7 +200,7 @@ class Run:
             host.start_driver()
 
     def ends(self):
-        """Waits until all nodes ended by themselves, and answers their statuses."""
+        """Waits until all nodes have ended, and returns their statuses."""
         until(lambda: all(host.node.poll() is not None for host in self.hosts))
         return [host.node.poll() for host in self.hosts]
 
@@ -216,7 +213,7 @@ class Run:
         return until(lambda: all(host.holds_all() for host in hosts or self.hosts))
 
     def told(self):
-        """What the nodes told last, for who looks why something failed."""
+        """What the nodes reported last, to find out why something failed."""
         return [(host.node.poll(), host.lines()[-4:], contents(host.out("driver"))[-300:]) for host in self.hosts]
 
     def begun(self):
@@ -382,7 +379,7 @@ def jobs(tally):
 
 
 def broken(tally):
-    """Two ports are broken: each host tries them once, and comes to rest with status 3. Run again the marks stand; they are taken
+    """Two ports are broken: each host tries them once, and comes to rest with status 3. Run again, the marks are still there; they are taken
     away and the Makefiles mended meanwhile, and all is built."""
     name = "two broken ports"
     with laid(ports=12, seed=5, broken=2, least=0.05, most=0.2) as run:
@@ -397,7 +394,7 @@ def broken(tally):
         run.end()
         run.start("--takeover", "1")
         again = until(lambda: all(failed <= set(host.lines()) for host in run.hosts))
-        check(tally, f"{name}, marks that stand", again, run.told())
+        check(tally, f"{name}, marks that exist", again, run.told())
         run.set_broken(mended=True)
         for host in run.hosts:
             for mark in names_in(f"{host.work}/failed"):
@@ -419,7 +416,7 @@ def settled(paths):
 
 
 def late(tally):
-    """A host whose node starts when two others hold all comes to hold all, and the others note nothing."""
+    """A host whose node starts when two others hold all obtains all, and the others note nothing."""
     name = "a late host"
     with laid(ports=20, seed=6, least=0.02, most=0.1) as run:
         early, last = run.hosts[:2], run.hosts[2]
@@ -458,7 +455,7 @@ def with_a_key(tally):
         check(tally, f"{name}, all is held", run.is_held(), run.told())
         tell(run, name, began)
         told = [line for host in run.hosts for line in host.lines() if b"seals otherwise" in line or b"fault" in line]
-        check(tally, f"{name}, what is told", not told, told)
+        check(tally, f"{name}, what is reported", not told, told)
         run.end()
         whole(tally, run, name)
 
@@ -469,7 +466,7 @@ UNIT = '{"a/unit,-main":[],"a/unit,-tests":[{"hex":"78","name":"x"}]}\n'
 SINGLE = ("bytes", "half", "held", "long", "name", "other")
 ANSWERED = "".join(f"a/{name}.FULLPKGNAME={name}-1\n" for name in SINGLE)
 ANSWERED += "a/unit,-main.FULLPKGNAME=unit-1\na/unit,-tests.FULLPKGNAME=unit-tests-1\n"
-# what is right for each unit, and what is none, by how that is
+# what is right for each unit, and what is malformed, with how
 GOOD = {"a/unit": UNIT, **{f"a/{name}": f'{{"a/{name}":[{{"hex":"78","name":"x"}}]}}\n' for name in SINGLE}}
 # what an answer has besides its unit's packages is not looked at
 GOOD["a/other"] = '{"a/other":[{"hex":"78","name":"x"}],"x/y":[{"hex":"","name":"@x"}]}\n'
@@ -480,7 +477,7 @@ BAD = {"that is no text": ("a/bytes", b"{"), "of another unit": ("a/other", b'{"
 
 
 class Lone(Host):
-    """A node for which the test builds: it stands in a folder with a listing, and its peers, if there are any, are the test's."""
+    """A node for which the test builds: it is in a folder with a listing, and its peers, if there are any, are the test's."""
 
     def __init__(self, folder, listing, weights=(1,), me=0):
         self.folder, self.members = folder, len(weights)
@@ -506,7 +503,7 @@ class Lone(Host):
         return self.jobs().get(unit, "none")
 
     def is_failed(self, unit, name):
-        """Waits until the node told that the unit failed, and marked it, and took the answer away."""
+        """Waits until the node printed that the unit failed, and marked it, and took the answer away."""
         return until(lambda: b"dpbn: failed " + unit.encode() in self.lines() and os.path.exists(f"{self.work}/failed/{name}")
                      and not os.path.exists(f"{self.work}/done/{name}"), 20)
 
@@ -529,7 +526,7 @@ def lone(listing, *words, weights=(1,)):
 
 
 def answers(tally):
-    """Answers that make no build, are half written, or are of a unit that is held: each is told and marked, or nobody looks at it;
+    """Answers that make no build, are half written, or are of a unit that is held: each is reported and marked, or ignored;
     and once the marks are gone all is built."""
     with lone(ANSWERED, "--jobs", "64") as host:
         all_posted = until(lambda: set(host.jobs()) == set(GOOD), 30)
@@ -550,7 +547,7 @@ def answers(tally):
         host.kill("node")
         host.start_node("--rest", "1")
         until(lambda: host.node.poll() is not None, 30)
-        check(tally, "a work folder beside its log", host.node.poll() == 0, host.lines()[-4:])
+        check(tally, "a work folder next to its log", host.node.poll() == 0, host.lines()[-4:])
 
 
 def late_answers(tally, host, names):
@@ -570,7 +567,7 @@ TWO = "a/b.FULLPKGNAME=b-1\na/c.FULLPKGNAME=c-1\n"
 
 
 def rests_behind_all_jobs(tally):
-    """A node whose open claim is answered, while the other one of its two jobs is built still, comes to rest behind that one."""
+    """A node whose open claim is answered, while the other one of its two jobs is built still, comes to rest after that one."""
     name = "two jobs, and a rest"
     with lone(TWO, "--jobs", "2", "--rest", "1") as host:
         first, second = host.job("a/b"), host.job("a/c")
@@ -585,7 +582,7 @@ def rests_behind_all_jobs(tally):
 
 def taken_away(tally):
     """A job that is taken away is posted again: that of the open claim, and one whose claim was given up for that; and no more jobs
-    are out than are told."""
+    are out than are allowed."""
     with lone(TWO + "a/d.FULLPKGNAME=d-1\n", "--jobs", "2") as host:
         names = {unit: host.job(unit) for unit in ("a/b", "a/c")}
         for unit, name in reversed(names.items()):
@@ -653,8 +650,8 @@ def one_folder(tally):
 
 
 def overtaken(tally):
-    """A claim is taken over by another node while its build is under way: what was built is published all the same, once the unit is
-    claimed anew, and the other node, for which nobody builds, holds it, too."""
+    """A claim is taken over by another node while its build is under way. What was built is published all the same, once the unit is
+    claimed again. The other node, for which nobody builds, holds it, too."""
     with several("a/b.FULLPKGNAME=b-1\n", "work-0", "work-1", "work-2") as hosts:
         for host in hosts[:2]:
             host.start_node("--takeover", "1")
@@ -689,7 +686,7 @@ def left_to_another(tally, takeover=4):
 
 
 def other_runs(tally):
-    """A folder that has files, beside a log without notes, is that of another run, and nothing of it changes; what is half written
+    """A folder that has files, next to a log without notes, is that of another run, and nothing of it changes; what is half written
     doesn't count."""
     for part in ("jobs", "done", "failed"):
         for name, wanted in (("0" * 64, 1209), (f".{'0' * 64}.1", None)):
@@ -719,7 +716,7 @@ def beside_nodes(tally):
             others = [nodes.started(folder, me, words) for me in (1, 2)]
             for path in paths:
                 host.hand_in("done", host.job(path), json.dumps({path: []}).encode())
-            check(tally, "a node beside others that have no builds", host.shows(I=3), host.lines()[-4:])
+            check(tally, "a node among others that have no builds", host.shows(I=3), host.lines()[-4:])
             held = [nodes.node_line(me, i=3) in iter(it.stderr.readline, b"") for me, it in enumerate(others, 1)]
             check(tally, "the others, what they hold", all(held), held)
         finally:
@@ -914,7 +911,7 @@ def quiet(tally):
         failed = until(lambda: b"dpbn: failed a/c" in host.lines(), 30)
         came(ears)
         until(lambda: any(came(ears)), 10)
-        # now one was just asked
+        # now a question was asked
         came(ears)
         time.sleep(5)
         kinds = came(ears)
@@ -930,7 +927,7 @@ def quiet(tally):
 
 
 def unanswered(tally):
-    """A node whose peers never answer offers its claim to each once a second, and asks as often; told to rest, it ends with status 3."""
+    """A node whose peers never answer offers its claim to each once a second, and asks as often; with --rest it ends with status 3."""
     name = "a node that nobody answers"
     with lone("a/b.FULLPKGNAME=b-1\n", "--rest", "8", weights=(1, 1, 1)) as host, contextlib.ExitStack() as stack:
         ears = [stack.enter_context(taken(port, address)) for address, port in host.places[1:]]
@@ -1006,7 +1003,7 @@ def long_run(tally, first=10, rounds=30):
             if not until(lambda: host.lines().count(b"dpbn: failed a/c") > number, 20, 0.002):
                 break
             os.unlink(f"{host.work}/failed/{name}")
-            # it is claimed anew, and the job tells so
+            # it is claimed again, and the job says so
             if not until(lambda: contents(f"{host.work}/jobs/{name}") != job, 20, 0.002):
                 break
             count += 1
@@ -1057,7 +1054,7 @@ def day_passed(tally, host, place):
 
 
 def nearly_full(tally):
-    """A log that has as many bytes as it may have before it is told, and with a note more: then it is told, once."""
+    """A log that has as many bytes as it may have before it is reported, and with a note more: then it is reported, once."""
     name = "a log that is nearly full"
     with tempfile.TemporaryDirectory() as folder:
         if shutil.disk_usage(folder).free < 2 * MOST_OF_A_LOG:
@@ -1084,7 +1081,7 @@ def nearly_full(tally):
 
 
 def votes(room):
-    """Votes for builds of `a/b`, in a log, that take so many bytes together."""
+    """Votes for builds of `a/b`, in a log, that take this many bytes together."""
     size = 4_000_000
     while room > 2 * size:
         yield vote(size)
@@ -1095,19 +1092,19 @@ def votes(room):
 
 @functools.cache
 def vote(size):
-    """One that takes so many bytes."""
+    """One that takes this many bytes."""
     def with_file(text):
         build = packages.build(packages.record("a/b", "b-1", [("x", text)], host=0))
         return behind_a_gate(packages.note(3, "a/b", packages.claim(1, 0) + build))
 
     rest = size - len(with_file(b"")) + 1
-    # the record tells the file's size, in as many digits as that has
+    # the record has the file's size, in as many digits as that has
     digits = next(it for it in range(1, 8) if len(str(rest - it)) == it)
     return with_file(b"x" * (rest - digits))
 
 
 def behind_a_gate(note):
-    """A note as it stands in a log, behind its open gate."""
+    """A note as it is in a log, after its open gate."""
     return b"\1" + len(note).to_bytes(4, "big") + note
 
 
@@ -1151,7 +1148,7 @@ def posted_on_the_disk(tally):
 # ---- large packages
 
 def held(host):
-    """How many packages the node told last that it holds."""
+    """How many packages the node printed last that it holds."""
     told = [it for it in map(LINE.fullmatch, host.lines()) if it]
     return sum(map(int, told[-1].groups()[1:3])) if told else 0
 
@@ -1167,7 +1164,7 @@ def start_storing(host, script):
 
 def large(tally):
     """Packages of hundreds of megabytes, each built at another host on those before: their large files go by digest, are fetched from
-    where they were built, and stand whole in the end."""
+    where they were built, and are whole in the end."""
     name, units = "large packages", ("x", "y", "z")
     listing = "".join(f"a/{it}.FULLPKGNAME={it}-1\n" for it in units) + "a/y.BUILD_DEPENDS=a/x\na/z.BUILD_DEPENDS=a/x a/y\n"
     script = f'd="$OUT/$(echo $PKGPATH | tr / :)" && mkdir "$d" && yes $PKGPATH | head -c {LARGE} > "$d/big" && '
@@ -1215,10 +1212,87 @@ def large_ones(tally, name, folder, hosts, units):
     check(tally, f"{name}, the list", audit.stdout == b"yes\n", audit.stdout, audit.stderr)
 
 
+# ---- disks that are lost, hosts that can't build
+
+COPIES = 3
+# a package of some size, with what it was built on
+STORED = ('d="$OUT/$(echo $PKGPATH | tr / :)"; mkdir "$d" && { echo $PKGPATH; cat "$DEPS"/*/big 2>/dev/null | cksum; head -c 3000 /dev/zero; } > "$d/big"')
+
+
+def start_copying(host):
+    """Starts a driver that hands in what three stores have."""
+    folder = host.run.folder
+    push = f'cp "$SOURCE" "{folder}/work-$HOST/store/.$SHA256.$$" && mv "{folder}/work-$HOST/store/.$SHA256.$$" "{folder}/work-$HOST/store/$SHA256"'
+    get = f'cp "{folder}/work-$HOST/store/$SHA256" "$TARGET"'
+    words = [f"{TOP}/tools/build-jobs", "--digests", "0", "--copies", str(COPIES), "--push", push, "--fetch", get, host.work, host.log]
+    with open(host.out("driver"), "ab") as out:
+        host.driver = subprocess.Popen([*words, "--", "sh", "-c", STORED], stdin=subprocess.DEVNULL, stdout=out, stderr=out)
+
+
+def lost_disks(tally):
+    """The first two hosts of five that hand something in are killed right after it, with their stores: the others come to rest."""
+    name, count = "hosts whose disks are lost", 6
+    listing = "".join(f"a/u{it}.FULLPKGNAME=u{it}-1\n" for it in range(count))
+    listing += "".join(f"a/u{it}.BUILD_DEPENDS=a/u{it - 1}\n" for it in range(1, count))
+    with tempfile.TemporaryDirectory() as folder:
+        first = Lone(folder, listing, (1,) * 5)
+        hosts = [first, *(Host(first, me) for me in range(1, 5))]
+        dead = []
+        try:
+            for host in hosts:
+                os.makedirs(f"{host.work}/store")
+                host.start_node("--takeover", "2", "--rest", "8")
+                start_copying(host)
+            while len(dead) < 2 and until(lambda: has_handed_in(hosts, dead), 60):
+                host = has_handed_in(hosts, dead)
+                host.kill("node", "driver")
+                shutil.rmtree(f"{host.work}/store")
+                dead.append(host)
+            others = [host for host in hosts if host not in dead]
+            until(lambda: all(host.node.poll() is not None for host in others), 120)
+            told = [host.node.poll() for host in others], [held(host) for host in others]
+            right = len(dead) == 2 and told == ([0] * 3, [count] * 3)
+            check(tally, name, right, len(dead), told, [(host.lines()[-2:], contents(host.out("driver"))[-400:]) for host in others])
+        finally:
+            for host in hosts:
+                host.end()
+
+
+def has_handed_in(hosts, dead):
+    """A host that handed something in, and isn't dead."""
+    return next((host for host in hosts if host not in dead and b" < " in contents(host.out("driver"))), None)
+
+
+def a_host_that_cannot_build(tally):
+    """The command of one host of three ends with 75: nothing is marked, the others build all, and the host shows that it is away."""
+    name, count = "a host that can't build", 12
+    listing = "".join(f"a/u{it:02}.FULLPKGNAME=u{it}-1\n" for it in range(count))
+    with tempfile.TemporaryDirectory(dir=nodes.MEMORY) as folder:
+        first = Lone(folder, listing, (1, 1, 1))
+        hosts = [first, Host(first, 1), Host(first, 2)]
+        try:
+            for host in hosts:
+                host.start_node("--takeover", "3", "--jobs", "4")
+                script = "exit 75" if host.me == 2 else 'mkdir "$OUT/$(echo $PKGPATH | tr / :)"; sleep 0.2'
+                words = [f"{TOP}/tools/build-jobs", "-j", "4", "--ready", "false", host.work, host.log, "--", "sh", "-c", script]
+                with open(host.out("driver"), "ab") as out:
+                    host.driver = subprocess.Popen(words, stdin=subprocess.DEVNULL, stdout=out, stderr=out)
+            all_held = until(lambda: all(held(host) == count for host in hosts), 120)
+            marks = [names_in(f"{host.work}/failed") for host in hosts]
+            built = [contents(host.out("driver")).count(b" < ") for host in hosts]
+            check(tally, name, all_held and marks == [[], [], []] and built[2] == 0, marks, built, [host.lines()[-2:] for host in hosts])
+            # it claimed three units at least
+            is_away = os.path.exists(f"{hosts[2].work}/away") or contents(hosts[2].out("driver")).count(b" is given back: status 75") < 3
+            check(tally, f"{name}, that it is away", is_away, contents(hosts[2].out("driver")))
+        finally:
+            for host in hosts:
+                host.end()
+
+
 # ---- words, and what is refused before the first turn
 
 def wrong_words():
-    """Words of `dpbn build` that are no call."""
+    """Wrong arguments of `dpbn build`."""
     needed = {"--listing": "listing", "--work": "work", "--dir": "logs", "--members": "3", "--me": "0"}
     for lacking in needed:
         yield [*(it for pair in needed.items() if pair[0] != lacking for it in pair), "--base", "7000"]
@@ -1235,7 +1309,7 @@ def wrong_words():
 
 
 def no_calls(tally):
-    """Words that are no call: clap's text on standard error, status 2, and nothing is made."""
+    """Wrong arguments: clap's text on standard error, status 2, and nothing is made."""
     with tempfile.TemporaryDirectory() as folder:
         nodes.lay(folder)
         before = names_in(folder)
@@ -1243,7 +1317,7 @@ def no_calls(tally):
             out, error, code = answer(["build", *words], folder)
             check(tally, f"dpbn build {words}", (out, code) == (b"", 2) and error, out, error, code)
         stays = names_in(folder) == before and not logs_in(folder)
-        check(tally, "what stands after words that are no call", stays, names_in(folder))
+        check(tally, "the folder after wrong arguments", stays, names_in(folder))
 
 
 def faults(tally):
@@ -1282,14 +1356,14 @@ def faults(tally):
 # ---- what is shown
 
 def manual_page(tally):
-    """What dpbn(1) shows of hosts that build, beside what it shows before it."""
+    """What dpbn(1) shows of hosts that build, next to what it shows before it."""
     nodes.shown_runs(tally, f"{TOP}/man/dpbn.1", ".Ss Hosts that build\n")
 
 
 def readme(tally):
-    """The README's three hosts: its very commands, in a folder where they find what they name, print what it says."""
+    """The README's three hosts: its very commands, in a folder with the files that they name, print what it says."""
     text = contents(f"{TOP}/README.md").decode()
-    block = re.search(r"^Three hosts that build this tree.*?\n\n(.*?)\n\n", text, re.DOTALL | re.MULTILINE)[1]
+    block = re.search(r"^Build this tree with three nodes.*?\n\n(.*?)\n\n", text, re.DOTALL | re.MULTILINE)[1]
     line = re.search(r"# each prints: node K: (.*)", block)[1]
     wanted = [f"node {me}: {line}" for me in range(3)] + [re.search(r"packages/list +# (\w+)$", block)[1]]
     with tempfile.TemporaryDirectory() as folder:
@@ -1312,7 +1386,8 @@ def run(tally):
     for one in (latency, own_units, left_by_one, alone, failed_elsewhere, away, late_claims):
         one(tally)
     beside(tally, (answers, rests_behind_all_jobs, taken_away, killed_while_it_builds, one_folder, overtaken, left_to_another, other_runs,
-                   beside_nodes, quiet, unanswered, voted_by_nobody, no_majority, long_run, manual_page, readme))
+                   beside_nodes, quiet, unanswered, voted_by_nobody, no_majority, long_run, manual_page, readme, lost_disks,
+                   a_host_that_cannot_build))
     if not shutil.which("bmake"):
         tally.skip("what is built of Makefiles", "there is no bmake here")
         return

@@ -24,13 +24,13 @@ def log_file(owner, notes, gate=1, end=b"\0"):
 
 
 def run_probe(*words, **more):
-    """The lines that the probe tells, each a word and a value."""
+    """The lines that the probe prints, each a word and a value."""
     done = subprocess.run([LOG_PROBE, *words], capture_output=True, text=True, timeout=60, **more)
     return [(word, value) for word, _space, value in (line.partition(" ") for line in done.stdout.splitlines())]
 
 
 def appended(file, count, length, **more):
-    """Opens a log, appends notes to it, and gives what was told: how many it found and appended, and its refusal."""
+    """Opens a log, appends notes to it, and gives what was reported: how many it found and appended, and its refusal."""
     return {word: int(value) for word, value in run_probe(file, str(count), str(length), **more)}
 
 
@@ -53,7 +53,7 @@ def lines_of(answer):
 
 
 def opening_difference(got, wanted, start, owner):
-    """How what a file opens to differs from what is wanted, and how it is opened by hand; or nothing."""
+    """How what a file opens to differs from what is required, and how it is opened by hand; or nothing."""
     if got == wanted:
         return ""
     tree, weights, me = owner
@@ -106,7 +106,7 @@ def check(tally, folder, name, start, right, owner=OWNER):
 
 
 def start_gate(start, owner, notes):
-    """The closed gate behind the notes, which stays as it is; of a new log it is 0."""
+    """The closed gate after the notes, which stays as it is; of a new log it is 0."""
     place = len(log_file(owner, notes, end=b""))
     return start[place:place + 1] if start[:1] == b"\1" and len(start) > place else b"\0"
 
@@ -125,7 +125,7 @@ def shapes(tally, folder):
     for length in range(len(new) + 1):
         check(tally, folder, f"a log in making of {length} bytes", b"\0" + new[1:length] if length else b"", [])
         likely = length < 2 or length == len(new)
-        check(tally, folder, f"{length} bytes behind a strange gate", b"\xff" + new[1:length] if length else b"", [] if likely else 1004)
+        check(tally, folder, f"{length} bytes after a strange gate", b"\xff" + new[1:length] if length else b"", [] if likely else 1004)
     check(tally, folder, "a log whose first gate is closed", b"\0" + whole[1:], 1004)
     tree, weights, me = OWNER
     for name, owner in (("another tree", (bytes([8] * 32), weights, me)), ("four members", (tree, bytes([1] * 4), me)),
@@ -150,7 +150,7 @@ def weighted(tally, folder):
 
 
 def called(folder, start, count, length, fail=""):
-    """The calls of a run over a file with these bytes, what it told, and the file."""
+    """The calls of a run over a file with these bytes, what it printed, and the file."""
     file, calls = f"{folder}/log", f"{folder}/calls"
     with open(file, "wb") as log:
         log.write(start)
@@ -163,7 +163,7 @@ def called(folder, start, count, length, fail=""):
 
 
 def note_calls(end, length):
-    """The calls that put a note behind the closed gate at a place: all but the gate, and then the gate."""
+    """The calls that put a note after the closed gate at a place: all but the gate, and then the gate."""
     return [f"write {end + 1} {length + 5}", "sync", f"write {end} 1", "sync"]
 
 
@@ -187,14 +187,14 @@ def order(tally, folder):
 
 
 def failing(tally, folder, name, start, found, all_later):
-    """Each call fails in turn, alone or with all later ones: 1001, and the notes before stand, with one more or without."""
+    """Each call fails in turn, by itself or with all later ones: 1001, and the notes before are there, with one more or without."""
     number, problem, was_failed = 0, "", True
     while was_failed and not problem:
         number += 1
         lines, told, file = called(folder, start, 3, 14, f"{number}.." if all_later else str(number))
         was_failed = any(line.endswith(" failed") for line in lines)
         if was_failed:
-            # the folder's sync stands in front of the disk, so there is no log to be refused
+            # the folder's sync comes before the disk, so there is no log that could be refused
             right = told.get("refused") == (2 if "sync folder failed" in lines else 1001)
             problem = reopened(file, {"found": found, **told}, 1) or ("" if right else f"call {number} failed: {told}")
         elif told != {"found": found, "appended": 3}:
@@ -204,7 +204,7 @@ def failing(tally, folder, name, start, found, all_later):
 
 
 def reopened(file, before, more):
-    """What is wrong with a log's notes after a run: at least those that it told of stand, and so many more at most."""
+    """What is wrong with a log's notes after a run: it has at least those that were reported, and at most this many more."""
     found = appended(file, 0, 0).get("found", -1)
     sure = before.get("found", 0) + before.get("appended", 0)
     return "" if sure <= found <= sure + more else f"{found} notes after {before}"
@@ -225,8 +225,8 @@ def full_device(tally, folder):
 
 
 def log_refused(tally, folder, name, start, found):
-    """A log that begins as these bytes, with so many notes, while each allocation is refused in turn: what was told to be
-    found or appended stands, and nothing else."""
+    """A log that begins as these bytes, with this many notes, while each allocation is refused in turn: it has what was reported as found
+    or appended, and nothing else."""
     number, problem, was_refused = 0, "", True
     while was_refused and not problem:
         number += 1
@@ -245,7 +245,7 @@ def log_refused(tally, folder, name, start, found):
 
 
 def memory_refused(tally, folder):
-    """A log on a disk in memory, likewise: what was told to be appended is left after a crash."""
+    """A log on a disk in memory, likewise: what was reported as appended is left after a crash."""
     number, problem, was_refused = 0, "", True
     while was_refused and not problem:
         number += 1

@@ -1,5 +1,5 @@
 """Members, nodes and worlds whose memory runs out: each allocation refused in turn of what `probes` answers to the files of
-tests/members/ and to some stored traces. Where that falls into a step, the program gives the same input again, and has to go on as
+tests/members/ and to some stored traces. If that happens in a step, the program gives the same input again, and has to go on as
 if nothing had been. That needs the program as it is built: `tools/prove probes` builds it, for who changes crate `member`, `node` or
 `simulator`, or one below them; without it this topic is skipped."""
 import os
@@ -12,7 +12,7 @@ from topics.tally import TESTS, TOP, built_shim, contents, text_difference
 
 # what members and nodes are asked, a file each, as `probes` reads it
 ASKED = f"{TESTS}/members"
-# the stored traces of which worlds are made, over the one package that `probes` has where no listing is told
+# the stored traces of which worlds are made, over the one package that `probes` has if no listing is given
 WORLDS = ("a_build_is_taken_over", "a_build_in_pieces")
 
 
@@ -36,14 +36,14 @@ def run_probe(text, **more):
 
 
 def is_right(told, right):
-    """Whether each line is the right one, or of a step that is only looked at and wants memory."""
+    """Whether each line is the right one, or of a step that is only prepared and runs out of memory."""
     lines, wanted = told.split(b"\n"), right.split(b"\n")
     return len(lines) == len(wanted) and all(
         line == other or line.startswith(b"look ") and line.endswith(b": 1") for line, other in zip(lines, wanted))
 
 
 def problem_of(got, right, again):
-    """What is wrong where an allocation was refused: in a step all is told, elsewhere a beginning."""
+    """What is wrong after an allocation failed: in a step everything is printed, elsewhere a prefix."""
     told, said, status = got
     if said == b"1 again\n":
         again.append(said)

@@ -1,4 +1,4 @@
-"""Want of memory at each allocation of dpbr: the right answer or fault 1, and nothing else."""
+"""Lack of memory at each allocation of dpbr: the right answer or fault 1, and nothing else."""
 import concurrent.futures
 import os
 import re
@@ -30,7 +30,7 @@ def long_listing(paths):
 
 
 def is_want_of_memory(words, got):
-    """Nothing is printed but fault 1, which a run tells of the event at which it came up, once there is one; and so that before a way."""
+    """Only fault 1 is printed. A run adds the event at which it came up, if there is one."""
     out, error, status = got
     place = rb"( at [1-9][0-9]*)?" if words[0] in ("run", "wayon") else b""
     return (out, status) == (b"", 1) and re.fullmatch(rb"dpbr: fault 1" + place + rb"\n", error)
@@ -55,11 +55,11 @@ def refusals(tally, folder, words, name):
 
 
 def cluster_problem(folder, got):
-    """What is wrong with a cluster of which a request for memory was refused: turns go on, and what the trace has is what the nodes
+    """What is wrong with a cluster of which an allocation failed: turns go on, and what the trace has is what the nodes
     show; or nothing is printed but fault 1."""
     out, error, status = got
     if set(error.split(b"\n")) - {b"", b"dpbn: fault 1"}:
-        return f"it tells {error!r}"
+        return f"it prints {error!r}"
     if status == 1 and error:
         return f"it prints {out!r}" if out else ""
     told = subprocess.run([PROGRAM, "run", "listing", "TRACE"], cwd=folder, capture_output=True, timeout=60).stdout

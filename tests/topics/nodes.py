@@ -69,12 +69,12 @@ def put(path, text):
 
 
 def refused(fault):
-    """What is answered where a fault is told before the first turn."""
+    """The answer if a fault comes before the first turn."""
     return b"", f"dpbn: fault {fault}\n".encode(), 1
 
 
 def places(base, count):
-    """So many places on 127.0.0.1, as words have them."""
+    """This many places on 127.0.0.1, as arguments have them."""
     return ",".join(f"127.0.0.1:{base + number}" for number in range(count))
 
 
@@ -86,7 +86,7 @@ def taken(port, address="127.0.0.1"):
 
 
 def free_ports(count):
-    """The first of so many ports that nobody has, one after the other, none of which was given before."""
+    """The first of this many ports that nobody has, one after the other, none of which was given before."""
     for base in BASES:
         sockets = [socket.socket(socket.AF_INET, socket.SOCK_DGRAM) for _ in range(count)]
         try:
@@ -125,7 +125,7 @@ def case(tally, kind, name):
 
 
 def wrong_words():
-    """Words that are no call."""
+    """Wrong arguments."""
     node = ["node", *SHARED, "--members", "3", "--me", "0", "--turns", "1"]
     cluster = ["cluster", *SHARED, "--members", "3", "--turns", "1"]
     here = [*node, "--base", "7000"]
@@ -151,23 +151,23 @@ def wrong_words():
 
 
 def no_calls(tally):
-    """Words that are no call: clap's text on standard error, and status 2."""
+    """Wrong arguments: clap's text on standard error, and status 2."""
     with tempfile.TemporaryDirectory() as folder:
         lay(folder)
         for words in wrong_words():
             out, error, code = answer(words, folder)
             tally.add(f"dpbn {words}", "" if (out, code) == (b"", 2) and error else f"{out!r:.200}, {error!r:.200}, status {code}")
-        tally.add("the logs after words that are no call", f"{logs_in(folder)}" if logs_in(folder) else "")
+        tally.add("the logs after wrong arguments", f"{logs_in(folder)}" if logs_in(folder) else "")
 
 
 def helps(tally):
-    """What is told where help is asked for is what dpbn(1) has."""
+    """The help has what dpbn(1) has."""
     with tempfile.TemporaryDirectory() as folder:
         help_of(tally, "dpbn", lambda words: answer(words, folder))
 
 
 def ordered(tally, folder, command, good, bad, **more):
-    """Words of which each in its turn is the first that is bad, and all that is looked at later is bad, too: its fault is told."""
+    """Words of which each in its turn is the first that is bad, and everything that is tested later is bad, too: its fault is reported."""
     for without, (fault, values) in enumerate(bad):
         words = dict(good)
         for _, later in reversed(bad[without:]):
@@ -217,7 +217,7 @@ def cluster_faults(tally):
             ("801", {"--weights": "1,2"}), ("2", {"--dir": "none"}), ("1204", {})), preexec_fn=no_files_left)
         words = ["cluster", *SHARED, "--members", "3", "--turns", "200"]
         answer(words, folder)
-        none, used = b"this is no log", logs_in(folder)
+        none, used = b"this isn't a log", logs_in(folder)
         # one log after the other, by number
         for first, second, wanted in ((none, used["node-1.log"], 1004), (used["node-1.log"], none, 1005), (used["node-0.log"], none, 1203),
                                       (b"", none, 1004), (b"", used["node-0.log"], 1005), (b"", used["node-1.log"], 1203)):
@@ -227,11 +227,11 @@ def cluster_faults(tally):
 
 
 def bad_files(folder):
-    """A listing that is none, and so no builds, and a folder of logs that are none."""
+    """A malformed listing, malformed builds, and a folder of files that aren't logs."""
     put(f"{folder}/bad", b"bad\n")
     os.mkdir(f"{folder}/bad-logs")
     for me in range(4):
-        put(f"{folder}/bad-logs/node-{me}.log", b"this is no log")
+        put(f"{folder}/bad-logs/node-{me}.log", b"this isn't a log")
 
 
 def bad_words(tally):
@@ -260,7 +260,7 @@ def logs_stay(tally, folder, words, wanted):
 
 
 def refused_logs(tally):
-    """Logs that a call refuses stay as they are, and so do those beside them."""
+    """Logs that a call refuses stay as they are, and so do those next to them."""
     with tempfile.TemporaryDirectory() as folder:
         lay(folder)
         put(f"{folder}/other", b"a/c.FULLPKGNAME=c-1.0\n")
@@ -273,7 +273,7 @@ def refused_logs(tally):
             logs_stay(tally, folder, ["4" if it == "3" else it for it in words], 1005)
             logs_stay(tally, folder, ["other" if it == "listing" else it for it in words], 1005)
         whole = logs_in(folder)
-        for spoiled, wanted in ((b"this is no log", 1004), (whole["node-0.log"][:-1], 1004), (whole["node-2.log"], 1005)):
+        for spoiled, wanted in ((b"this isn't a log", 1004), (whole["node-0.log"][:-1], 1004), (whole["node-2.log"], 1005)):
             put(f"{folder}/logs/node-0.log", spoiled)
             logs_stay(tally, folder, ["cluster", *three], wanted)
             logs_stay(tally, folder, [*node, "0"], wanted)
@@ -287,11 +287,11 @@ def alone(tally):
         lay(folder)
         words = ["node", *SHARED, "--members", "1", "--me", "0", "--base", str(free_ports(1)), "--turns", "12"]
         for _ in range(2):
-            tally.add("dpbn node, alone", difference(answer(words, folder), (b"node 0: I=1 B=0 Q=0 T=0 !=0\n", b"", 0)))
+            tally.add("dpbn node, by itself", difference(answer(words, folder), (b"node 0: I=1 B=0 Q=0 T=0 !=0\n", b"", 0)))
         one = ["cluster", *SHARED, "--members", "1", "--turns", "12"]
         tally.add("a cluster on its log", difference(answer(one, folder), (b"", b"dpbn: fault 1203\n", 1)))
         three = ["cluster", *SHARED, "--members", "3", "--turns", "12"]
-        tally.add("beside the run file of a lone member", difference(answer(three, folder), (b"", b"dpbn: fault 1203\n", 1)))
+        tally.add("next to the run file of a lone member", difference(answer(three, folder), (b"", b"dpbn: fault 1203\n", 1)))
         os.remove(f"{folder}/logs/node-0.run")
         tally.add("the log of a lone member", difference(answer(three, folder), (b"", b"dpbn: fault 1005\n", 1)))
 
@@ -309,7 +309,7 @@ def cluster(tally):
 
 
 def exact_turns(tally):
-    """A lone member takes just so many turns, one of them after the other, in a cluster and as a node."""
+    """A lone member takes exactly this many turns, one of them after the other, in a cluster and as a node."""
     for turns in range(len(ALONE) + 2):
         line = node_line(0, i=1) if turns >= len(ALONE) else node_line(0, q=1)
         with tempfile.TemporaryDirectory() as folder:
@@ -324,7 +324,7 @@ def exact_turns(tally):
 
 
 def progress(tally):
-    """The lines after each so many turns, on standard error, and on standard output the last ones alone."""
+    """The lines after every N turns, on standard error, and only the last ones on standard output."""
     one, three = ["--members", "1", "--turns"], ["--members", "3", "--turns"]
     node = ["node", "--me", "0", "--base", str(free_ports(1)), *one]
     queued, held = node_line(0, q=1), node_line(0, i=1)
@@ -360,7 +360,7 @@ def down_problem(folder, got, once):
 
 
 def called(shim, folder, words, fail):
-    """What is answered where this call of the logs' devices fails, on logs that are new, and how many such calls there were."""
+    """The answer if this call of the logs' devices fails, on logs that are new, and how many such calls there were."""
     lay_logs(folder)
     put(f"{folder}/calls", b"")
     got = answer(words, folder, env={**os.environ, "LD_PRELOAD": f"{shim}/calls.so", "CALLS": f"{folder}/calls", "FAIL": fail})
@@ -368,7 +368,7 @@ def called(shim, folder, words, fail):
 
 
 def failing_devices(tally, shim, folder):
-    """Each call of the logs' devices of a cluster failing in turn, and each third with all later ones: where the logs stand, those nodes
+    """Each call of the logs' devices of a cluster failing in turn, and each third with all later ones: where the logs are, those nodes
     are down and the others go on."""
     opening = 3 + 3 * 8  # each log's folder is brought to the disk, and then each log is made
     words = ["cluster", *SHARED, "--members", "3", "--turns", "80", "--trace", "trace"]
@@ -407,7 +407,7 @@ def failing_device(tally, shim, folder):
 
 
 def failing(tally):
-    """Devices that fail: in memory, where there is a folder for it, since what stays on them isn't asked here."""
+    """Devices that fail: in memory, if there is a folder for it, since what stays on them isn't asked here."""
     with tempfile.TemporaryDirectory() as shim, tempfile.TemporaryDirectory(dir=MEMORY) as folder:
         if built_shim(tally, shim, "calls"):
             lay(folder)
@@ -416,7 +416,7 @@ def failing(tally):
 
 
 def with_room(room):
-    """What a process does before it is dpbn, so that its log may grow to so many bytes: more is refused, as by a full device."""
+    """What a process does before it is dpbn, so that its log may grow to this many bytes: more is refused, as by a full device."""
     def full():
         signal.signal(signal.SIGXFSZ, signal.SIG_IGN)
         resource.setrlimit(resource.RLIMIT_FSIZE, (room, room))
@@ -425,19 +425,19 @@ def with_room(room):
 
 
 def started(folder, me, words, room=None, files=SHARED):
-    """A node of three, whose log may grow to so many bytes."""
+    """A node of three, whose log may grow to this many bytes."""
     return subprocess.Popen([NODES, "node", *files, "--members", "3", "--me", str(me), *words], cwd=folder, stdout=subprocess.PIPE,
                             stderr=subprocess.PIPE, preexec_fn=with_room(room) if room is not None else None)
 
 
 def ended(process):
-    """Ends a process that runs, and gives what it told on standard error."""
+    """Ends a process that runs, and gives what it printed on standard error."""
     process.kill()
     return process.communicate(timeout=300)[1]
 
 
 def sockets_of(process):
-    """Where the process listens by UDP: addresses and ports."""
+    """The addresses and ports at which the process listens by UDP."""
     try:
         links = [os.readlink(f"/proc/{process.pid}/fd/{fd}") for fd in os.listdir(f"/proc/{process.pid}/fd")]
     except OSError:
@@ -454,7 +454,7 @@ def sockets_of(process):
 
 
 def listening(process, count=1):
-    """The same, once it has so many."""
+    """The number, once it has reached this many."""
     found = []
     for _ in range(12_000):
         found = sockets_of(process)
@@ -498,7 +498,7 @@ def sockets(tally):
 
 
 def nothing_seen(me):
-    """What a node of three whose peers have hosts tells at the end, where nothing came."""
+    """What a node of three whose peers have hosts prints at the end, if nothing came."""
     return b"".join(b"dpbn: member %d: heard 0, sealed otherwise 0, asked again 0, unsent 0\n" % it for it in range(3) if it != me) + b"dpbn: strangers: 0\n"
 
 
@@ -554,7 +554,7 @@ def letters_at(folder, me, words):
 
 
 def grown(path, size, tries=20_000):
-    """Waits until the file has so many bytes, for so many milliseconds or somewhat longer."""
+    """Waits until the file has this many bytes, for this many milliseconds or somewhat longer."""
     for _ in range(tries):
         if os.path.exists(path) and os.path.getsize(path) >= size:
             return True
@@ -624,7 +624,7 @@ def took(words, folder):
 
 
 def patience(tally):
-    """A turn in which nothing comes waits as long as its patience tells, and half of that longer for each smaller number; a lone member
+    """A turn in which nothing comes waits as long as its patience says, and half of that longer for each smaller number; a lone member
     waits for nobody. An idle node leaves the processor to others."""
     with tempfile.TemporaryDirectory() as folder:
         lay(folder, "a/b.FULLPKGNAME=b-1.0\na/b.IGNORE=broken\n")
@@ -679,7 +679,7 @@ def second_start(tally):
         tally.add("the log of the node that runs", "" if logs_in(folder)["node-0.log"] == before["node-0.log"] else "it changed")
         others = [started(folder, me, ["--base", str(base), "--turns", "100"]) for me in (1, 2)]
         lines = b"".join(it.communicate(timeout=300)[0] for it in others)
-        tally.add("the others beside it", "" if lines == node_line(1, i=1) + node_line(2, i=1) else f"{lines!r}")
+        tally.add("the others next to it", "" if lines == node_line(1, i=1) + node_line(2, i=1) else f"{lines!r}")
         tally.add("the node that runs", "" if first.poll() is None else f"it ended with {first.returncode}")
         ended(first)
         got = answer([*node[:-3], "--turns", "0", "--base", str(base)], folder)
@@ -698,7 +698,7 @@ def is_filled(log, room):
 
 
 class Full:
-    """Which nodes have a full device, and what they told of it."""
+    """Which nodes have a full device, and what they printed of it."""
 
     def __init__(self, folder):
         self.folder = folder
@@ -707,7 +707,7 @@ class Full:
         self.strange = set()
 
     def ended(self, me, node):
-        """Ends the node; faults that it may tell are 1202, of noise, and 1001, where its device could get full."""
+        """Ends the node; faults that it may print are 1202, of noise, and 1001, where its device could get full."""
         error = ended(node)
         room = self.rooms.pop(me, None)
         down = b"dpbn: fault 1001 at %d" % me
@@ -722,16 +722,16 @@ class Full:
         return f"{self.folder}/logs/node-{me}.log"
 
     def tally(self, tally, when):
-        """Whether a note finds no room is a matter of time, and so is whether a node that was killed had told of it. But where notes
+        """Whether a note finds no room is a matter of time, and so is whether a node that was killed had reported it. But if notes
         had none, one of their nodes has."""
-        seen = f"a note had no room in {self.filled}, and 1001 was told in {self.told}"
+        seen = f"a note had no room in {self.filled}, and 1001 was reported in {self.told}"
         print(f"tests/run: {when}: {self.rounds} with a full device; {seen}", flush=True)
-        tally.add(f"{when}: what is told of full devices", "" if self.told or not self.filled else f"nothing, and {self.filled} notes had no room")
+        tally.add(f"{when}: what is reported of full devices", "" if self.told or not self.filled else f"nothing, and {self.filled} notes had no room")
         tally.add(f"{when}: other faults", f"{sorted(self.strange)}" if self.strange else "")
 
 
 def held_by_all(tally, name, nodes, packages):
-    """Nodes that tell their lines as they go come to hold all while they run."""
+    """Nodes that print their lines as they go obtain all while they run."""
     held = [node_line(me, i=packages) in iter(node.stderr.readline, b"") for me, node in enumerate(nodes)]
     for node in nodes:
         ended(node)
@@ -739,8 +739,8 @@ def held_by_all(tally, name, nodes, packages):
 
 
 def kills(tally, rounds=20, seed=1, packages=60, sealing=False):
-    """Three nodes on a listing, with a key or without one, of which one after the other is killed and started again, each fifth time
-    with a full device, while noise is sent to their sockets."""
+    """Three nodes on a listing, with a key or without one. One after the other is killed and started again, each fifth time with a
+    full device, while noise is sent to their sockets."""
     dice = random.Random(seed)
     listing = "".join(f"p/n{k}.FULLPKGNAME=n{k}-1\n" + (f"p/n{k}.LIB_DEPENDS=p/n{dice.randrange(k)}\n" if k % 3 else "") for k in range(packages))
     builds = {f"p/n{k}": [{"hex": dice.randbytes(dice.choice((0, 10, 40_000))).hex(), "name": "x"}] for k in range(packages)}
@@ -799,8 +799,8 @@ def agreed(tally, folder, when):
 
 
 def shown_runs(tally, path, behind, until=None):
-    """What a page shows behind this line, and before that one: its commands run in a folder, one after the other, and print what stands
-    there. Files that it shows before are there, too. A copy to another host is none."""
+    """What a page shows after this line, and before that one: its commands run in a folder, one after the other, and print what is
+    there. Files that it shows before are there, too. A copy to another host is skipped."""
     page = contents(path).decode()
     before, _, part = page.partition(behind)
     part = part.partition(until)[0] if until else part
@@ -829,7 +829,7 @@ def manual_page(tally):
 
 
 def beside(tally, several):
-    """Runs these beside each other, since they wait more than they work."""
+    """Runs these next to each other, since they wait more than they work."""
     def counted(one):
         own = Tally()
         one(own)
@@ -840,6 +840,7 @@ def beside(tally, several):
             tally.passed += own.passed
             tally.failed += own.failed
             tally.names += own.names
+            tally.skipped += own.skipped
 
 
 def run(tally):

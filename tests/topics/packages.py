@@ -37,7 +37,7 @@ def record(path, name, files, built=(), run=(), host=3, claim="1.0"):
 
 
 def build(*records):
-    """The text of a build, behind its length."""
+    """The text of a build, after its length."""
     text = (f"@dpb 2\n@packages {len(records)}\n".encode() if len(records) > 1 else b"") + b"".join(records)
     return len(text).to_bytes(4, "big") + text
 
@@ -87,7 +87,7 @@ def files_in(folder):
 
 
 def unpacked(folder, text):
-    """What the tool said of a log with these bytes, and what it left beside the log."""
+    """What the tool said of a log with these bytes, and what it left next to the log."""
     with open(f"{folder}/log", "wb") as file:
         file.write(text)
     said = tool("unpack-log", f"{folder}/log", f"{folder}/out")
@@ -96,7 +96,7 @@ def unpacked(folder, text):
 
 
 def good_logs(tally):
-    """Two forms of log, what a torn write left behind the gate, and a node that holds nothing."""
+    """Two forms of log, what a torn write left after the gate, and a node that holds nothing."""
     for name, text, files in (("a log", log(NOTES), FILES), ("a log with weights", log(NOTES, (1, 1, 3), 2), FILES),
                               ("a log with a torn note", log(NOTES, end=b"\0\0\0\x28torn"), FILES),
                               ("a log without notes", log([]), {"list": b"", "held": b""})):
@@ -112,20 +112,20 @@ def good_logs(tally):
         got = files_in(f"{folder}/out")
         tally.add("the same, its list and its paths", "" if (got["list"], got["held"]) == (b"", b"c/d\ne/f\n") else f"{got['list']!r:.200}")
         again = unpacked(folder, log(NOTES))
-        tally.add("unpack-log into a folder that stands", "" if again[2] == 1 and files_in(f"{folder}/out") == got else f"{again}")
+        tally.add("unpack-log into an existing folder", "" if again[2] == 1 and files_in(f"{folder}/out") == got else f"{again}")
 
 
 def bad_logs(tally):
-    """A log that is none, or that has a bad note, is told with its place, and nothing is left."""
+    """A malformed log, or one with a bad note, is reported with its place, and nothing is left."""
     good, first = log(NOTES), 43
     held = log([HELD_D])
     cases = [("no bytes", b"", 0), ("a closed header", b"\0" + good[1:], 0), ("another magic", good[:8] + b"3" + good[9:], 1),
-             ("no members", good[:41] + b"\0" + good[42:], 41), ("a number that is no member's", good[:42] + b"\3" + good[43:], 42),
+             ("no members", good[:41] + b"\0" + good[42:], 41), ("a number that isn't a member's", good[:42] + b"\3" + good[43:], 42),
              ("weights of ones", log([], (1, 1, 3))[:43] + b"\1\1\1\0", 43),
              ("a note that isn't whole", good[:first + 9], first), ("a note without the next gate", log([HELD_D], end=b""), first),
-             ("a kind that is none", held[:48] + b"\5" + held[49:], 48), ("a path that isn't canonical", log([note(1, "a/b,y,x", bytes(7) + b"\1")]), 51),
+             ("an unknown kind", held[:48] + b"\5" + held[49:], 48), ("a path that isn't canonical", log([note(1, "a/b,y,x", bytes(7) + b"\1")]), 51),
              ("a round of 0", log([note(1, "a/b", bytes(8))]), 54), ("a member too many", log([note(2, "a/b", claim(1, 9))]), 62),
-             ("something behind a note", log([note(2, "a/b", claim(1, 0) + b"x")]), 63),
+             ("something after a note", log([note(2, "a/b", claim(1, 0) + b"x")]), 63),
              ("a build of another unit", log([note(4, "c/e", build(D))]), 54),
              ("a file that hasn't its digest", log([HELD_D[:-1] + b"e"]), 43 + 5 + len(HELD_D) - 1),
              ("records in another order", log([note(4, "a/b", build(MAIN, DOCS))]), None), ("a build too short", log([HELD_D[:-1]]), 54),
@@ -141,7 +141,7 @@ def bad_logs(tally):
 
 
 def cut_logs(tally):
-    """A log cut at each length: at a gate it is whole where the byte is taken for a closed one, and else it is told."""
+    """A log cut at each length: at a gate it is whole if the byte is taken for a closed one, and otherwise it is reported."""
     text, wrong = log([HELD_D]), []
     for length in range(len(text)):
         with tempfile.TemporaryDirectory() as folder:
@@ -194,13 +194,13 @@ def builds(tally):
 
 
 def large_builds(tally):
-    """A file that is too large is told, or gives way to what says which it is."""
+    """A file that is too large is reported, or gives way to what says which it is."""
     large = bytes(MOST_OF_A_BUILD + 1)
     with tempfile.TemporaryDirectory() as folder:
         written(folder, {"a:b,-x/large": large, "a:b,-y/small": b"y", "c:d/z": b"z"})
         out, said, status = tool("make-builds", folder)
         tally.add("make-builds of a large file", "" if (out, status) == (b"", 1) and said.startswith(b"make-builds: a/b: ") else f"{said!r:.300}")
-        out, said, status = tool("make-builds", folder, "--digests")
+        out, said, status = tool("make-builds", folder, "--digests", str(MOST_OF_A_BUILD))
         tally.add("make-builds with digests", fallen(said, status))
         if status == 0:
             told = f"SHA256 (large) = {digest(large)}\nSIZE (large) = {len(large)}\n".encode().hex()
@@ -209,8 +209,8 @@ def large_builds(tally):
 
 
 def bad_folders(tally):
-    for name, files in (("a name that is no path", {"ab/x": b""}), ("flavors out of order", {"a:b,y,x/x": b""}), ("two subpackages", {"a:b,-x,-y/x": b""}),
-                        ("a file name that no record takes", {"a:b/@x": b""}), ("a name that is no text", {"a:b/\udcff": b""}), ("no folder", None)):
+    for name, files in (("a name that isn't a path", {"ab/x": b""}), ("flavors out of order", {"a:b,y,x/x": b""}), ("two subpackages", {"a:b,-x,-y/x": b""}),
+                        ("a file name that no record takes", {"a:b/@x": b""}), ("a name that isn't text", {"a:b/\udcff": b""}), ("no folder", None)):
         with tempfile.TemporaryDirectory() as folder:
             written(folder, files or {})
             out, said, status = tool("make-builds", folder if files else f"{folder}/none")

@@ -1,5 +1,5 @@
 """Stored rows: what the driver `probes` answers on paths, names, trees, records, builds, datagrams, notes, members, nodes, traces, BUILDS,
-worlds and texts. A file of tests/probes/ has the rows of one topic, and the file beside it that ends in `.stdout` the answers."""
+worlds and texts. A file of tests/probes/ has the rows of one topic, and the file next to it that ends in `.stdout` the answers."""
 import os
 
 from topics import driver

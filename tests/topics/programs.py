@@ -28,7 +28,7 @@ def stored_cases(tally, kinds):
 
 
 def shown(page):
-    """The lines that a manual page shows behind a `$`, and with each the text that it shows below it."""
+    """The lines that a manual page shows after a `$`, and with each the text that it shows below it."""
     for block in re.findall(r"^\.Bd -literal.*?\n(.*?)^\.Ed$", page, re.DOTALL | re.MULTILINE):
         for part in re.split(r"^\$ ", block, flags=re.MULTILINE)[1:]:
             line, _, text = part.partition("\n")
@@ -77,8 +77,8 @@ def manual_page(tally):
 
 
 def synopsis(page):
-    """What the synopsis of a manual page has of each subcommand: its arguments in order, and the options that have to stand and those
-    that may, of which it is said whether they have a value. Of two between which a bar is, either may stand."""
+    """What the synopsis of a manual page has of each subcommand: its arguments in order, the required options and the
+    optional ones, with whether they have a value. Of two with a bar between them, one may be given."""
     calls = {}
     part = re.search(r"^\.Sh SYNOPSIS\n(.*?)^\.Sh ", page, re.DOTALL | re.MULTILINE)[1]
     for call in re.split(r"^\.Nm\n", part, flags=re.MULTILINE)[1:]:
@@ -91,7 +91,7 @@ def synopsis(page):
 
 
 def usage(text):
-    """The same of a subcommand, as the program tells it where help is asked for."""
+    """The arguments and options of a subcommand, by the program's help."""
     line = re.search(r"^Usage: (.*)$", text, re.MULTILINE)[1]
     option = r"--(\w+)( <[^>]*>)?"
     needed = {(name, bool(value)) for name, value in re.findall(option, line)}
@@ -100,7 +100,7 @@ def usage(text):
 
 
 def strange_numbers(page, text):
-    """The options of which a subcommand's help tells numbers that the page doesn't, or not what the page says they are if they aren't
+    """The options of which a subcommand's help prints numbers that the page doesn't, or not what the page says they are if they aren't
     given."""
     strange = []
     for name, told in re.findall(r"^ +--(\w+)(?: <[^>]*>)? +(.*)$", text, re.MULTILINE):
@@ -112,7 +112,7 @@ def strange_numbers(page, text):
 
 
 def help_of(tally, name, ask):
-    """What a program tells where help is asked for is what its page has."""
+    """A program's help has what its page has."""
     page = contents(f"{TOP}/man/{name}.1").decode()
     calls = synopsis(page)
     _, error, status = ask(["--help"])
@@ -122,7 +122,7 @@ def help_of(tally, name, ask):
     for command, call in calls.items():
         out, error, status = ask([command, "--help"])
         got = usage(error.decode()) if (out, status) == (b"", 2) else (out, error, status)
-        tally.add(f"{name} {command} --help", "" if got == call else f"it tells {got}, and man/{name}.1 has {call}")
+        tally.add(f"{name} {command} --help", "" if got == call else f"it has {got}, and man/{name}.1 has {call}")
         strange = strange_numbers(page, error.decode())
         tally.add(f"{name} {command} --help, its numbers", f"those of {strange} aren't the page's" if strange else "")
 
@@ -132,11 +132,11 @@ def helps(tally):
 
 
 def readme(tally):
-    """The README's lines on files, each as it stands there, in a folder where it finds what it names: what they print is stored."""
+    """The README's lines on files, each as it is there, in a folder with the files that it names: what they print is stored."""
     text = contents(f"{TOP}/README.md").decode()
     lines = re.findall(r"^    (\./dpbr status .*)$", text, re.MULTILINE)
-    lines += [it.strip() for it in re.search(r"^The others, and your own tree.*?\n\n(.*?)\n\n", text, re.DOTALL | re.MULTILINE)[1].split("\n")]
-    # what lines that begin so print, and tell on standard error
+    lines += [it.strip() for it in re.search(r"^Other commands, the last two.*?\n\n(.*?)\n\n", text, re.DOTALL | re.MULTILINE)[1].split("\n")]
+    # what lines that begin so print on standard output and on standard error
     stored = {"./dpbr status": ("examples.stdout", ""), "./dpbr run": ("examples.run.stdout", ""), "./dpbr wayon": ("examples.wayon.stdout", ""),
               "tools/expand-listing DUMP": ("expand/000/letters", "expand/000/stderr"),
               "tools/why-ignored LISTING": ("ignored/the_example/stdout", "")}
@@ -156,7 +156,7 @@ def readme(tally):
 
 
 def examples(tally):
-    """What dpbr says of the examples, and of empty files; the README's lines on them are run as they stand there."""
+    """What dpbr says of the examples, and of empty files; the README's lines on them are run as they are there."""
     letters = contents(f"{TESTS}/examples.stdout")
     late = b"no: package 5: dependency not earlier\n"
     for words, out, status in ((["status", "listing", "held"], letters, 0), (["audit", "listing", "list"], b"yes\n", 0),
@@ -168,7 +168,7 @@ def examples(tally):
 
 
 def no_calls(tally):
-    """Words that are no call of the program: clap's text on standard error, and status 2."""
+    """Wrong arguments: clap's text on standard error, and status 2."""
     status, audit, run = ["status", "listing", "held"], ["audit", "listing", "list"], ["run", "listing", "trace"]
     for words in ([], ["--help"], ["help"], ["--version"], ["status"], ["status", "listing"], [*status, "more"], ["state", *status[1:]],
                   [b"status", b"\xff", b"held"], ["status", "--help"], ["audit"], ["audit", "listing"], [*audit, "more"],
@@ -243,7 +243,7 @@ def run_chain(tally):
 
 
 def one_unit(tally):
-    """As many packages as a listing has, of one group: one build makes them, so that all wait where one of them needs another path."""
+    """As many packages as a listing has, of one group: one build makes them, so that all wait if one of them needs another path."""
     packages = 16384
     listing = "".join(f"a/b,-p{n}.FULLPKGNAME=p{n}-1\n" for n in range(packages - 1)) + "a/c.FULLPKGNAME=c-1\n"
     for needs, letter in (("", "Q"), ("a/b,-p9.BUILD_DEPENDS=a/c\n", "T"), ("a/b,-p9.BUILD_DEPENDS=a/b,-p8\n", "Q")):
@@ -258,7 +258,7 @@ def one_unit(tally):
 
 
 def ignored_chain(tally):
-    """A chain of packages that are ignored, each for the one behind it in the listing, takes no longer than another listing."""
+    """A chain of packages that are ignored, each for the one after it in the listing, takes no longer than another listing."""
     paths = 16384
     listing = "".join(f"a/p{n}.FULLPKGNAME=p{n}-1\na/p{n}.{('BUILD', 'RUN')[n % 2]}_DEPENDS=a/p{n + 1}\n" for n in range(paths - 1))
     listing += f"a/p{paths - 1}.FULLPKGNAME=p{paths - 1}-1\na/p{paths - 1}.IGNORE=broken\n"

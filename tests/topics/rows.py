@@ -1,6 +1,6 @@
-"""Rows of clusters in memory, ballots, keys, run files and logs, texts that are joined with a known build and without one, and a work
-folder: tests of crates of their own, compiled from the sources as they are, before any proof. A proof of them would prove nothing of the
-program; that of the rows of clusters would take the gate twenty minutes of a processor."""
+"""Tests in crates of their own, compiled from the current sources without a proof. They are about clusters in memory, ballots, keys,
+run files and logs, texts that are joined with a known build and without one, and the work folder. A proof of a test would prove
+nothing of the program, and take the gate twenty minutes of a processor."""
 import os
 import re
 import subprocess

@@ -1,5 +1,5 @@
-"""Nodes of a run with a key: what is forged, flipped, replayed or sealed otherwise changes nothing; requests that come again at once;
-faults that come again; files of keys; run files beside logs that are lost, swapped, emptied and copied back."""
+"""Nodes of a run with a key. Datagrams that are forged, flipped, replayed or sealed otherwise change nothing. Also repeated requests
+and faults, files of keys, and run files of logs that are lost, swapped, emptied and copied back."""
 import hashlib
 import hmac
 import json
@@ -19,7 +19,7 @@ from topics.tally import contents, difference
 
 # how many datagrams are sent, in all, that are forged; and that are noise or genuine ones with a bit flipped
 FORGED = FLIPPED = 1_000_000
-# after so many a sender naps, so that what it sends finds room in the socket's line
+# after this many a sender naps, so that what it sends finds room in the socket's line
 AT_ONCE, NAP = 64, 0.001
 STRANGER = "127.0.0.9"
 TALLY = re.compile(rb"^dpbn: member (\d): heard (\d+)(?:, last \d+ s ago)?, sealed otherwise (\d+), asked again (\d+), unsent (\d+)$")
@@ -105,12 +105,12 @@ def over(node):
 
 
 def lines_of(folder, me):
-    """What the node told so far."""
+    """What the node printed so far."""
     return contents(f"{folder}/err-{me}").split(b"\n")[:-1]
 
 
 def seen(folder, me):
-    """What it told last of each other member (heard, sealed otherwise, asked again, unsent), and of strangers."""
+    """What it printed last of each other member (heard, sealed otherwise, asked again, unsent), and of strangers."""
     tallies, strangers = {}, 0
     for line in lines_of(folder, me):
         found = TALLY.match(line)
@@ -122,7 +122,7 @@ def seen(folder, me):
 
 
 def settled(folder, me):
-    """The same, once it stays."""
+    """That, once it no longer changes."""
     before, now = None, seen(folder, me)
     while before != now:
         time.sleep(1.5)
@@ -131,7 +131,7 @@ def settled(folder, me):
 
 
 def has_told(folder, me, *lines, seconds=60):
-    """Waits until it has told one of these lines."""
+    """Waits until it has reported one of these lines."""
     until = time.monotonic() + seconds
     while time.monotonic() < until:
         if not set(lines).isdisjoint(lines_of(folder, me)):
@@ -152,7 +152,7 @@ def at_rest(folder, me):
 
 
 def others(line):
-    """Whether it is told of nothing but members, strangers and the node itself."""
+    """Whether only members, strangers and the node itself are reported."""
     return not (TALLY.match(line) or line.startswith((b"dpbn: strangers: ", b"node ")))
 
 
@@ -242,7 +242,7 @@ def runs(tally):
             over(node)
         tally.add("three nodes under a key", "" if all(held) else f"{[lines_of(folder, me)[-3:] for me in range(3)]}")
         whole = logs_in(folder)
-        tally.add("what stands in the folder", "" if sorted(whole) == [f"node-{me}.{it}" for me in range(3) for it in ("log", "run")] else f"{sorted(whole)}")
+        tally.add("the folder", "" if sorted(whole) == [f"node-{me}.{it}" for me in range(3) for it in ("log", "run")] else f"{sorted(whole)}")
         tally.add("--continue", "" if answer([*first, "--continue"], folder)[::2] == (node_line(0, i=1), 0) else "it is refused")
 
         def restored():
@@ -262,8 +262,8 @@ def runs(tally):
 
         log, run = whole["node-0.log"], whole["node-0.run"]
         for name, text in (("no log", None), ("an emptied log", b""), ("a log of one byte", b"\1"), ("a blank log", bytes(40))):
-            spoiled(f"{name} beside a run file", {"node-0.log": text}, first, 1007)
-            spoiled(f"{name} beside a run file, --continue", {"node-0.log": text}, [*first, "--continue"], 1007)
+            spoiled(f"{name} next to a run file", {"node-0.log": text}, first, 1007)
+            spoiled(f"{name} next to a run file, --continue", {"node-0.log": text}, [*first, "--continue"], 1007)
         spoiled("the log of another member", {"node-0.log": whole["node-1.log"]}, first, 1005)
         spoiled("log and run file of another member", {"node-0.log": whole["node-1.log"], "node-0.run": whole["node-1.run"]}, first, "1006 at 4")
         spoiled("no run file, and a key", {"node-0.run": None}, first, "1006 at 0")
@@ -280,13 +280,13 @@ def runs(tally):
         restored()
         put(f"{folder}/logs/node-0.log", log[:-1] + b"\0")
         got = answer(first, folder)
-        tally.add("an older copy of the log opens: nothing beside it tells", "" if got[2] == 0 else f"{got[1]!r}")
+        tally.add("an older copy of the log opens: nothing detects it", "" if got[2] == 0 else f"{got[1]!r}")
 
 
-# ---- what comes
+# ---- what arrives
 
 def believed(tally):
-    """Without a key a build that a member's address tells as agreed is taken; the same datagrams do nothing under a key."""
+    """Without a key a build that a member's address announces as agreed is taken; the same datagrams do nothing under a key."""
     for name, words, line in (("no key", ["--unsealed"], node_line(0, i=1)), ("a key", ["--key", "key"], node_line(0, q=1))):
         with tempfile.TemporaryDirectory() as folder:
             lay_run(folder)
@@ -303,7 +303,7 @@ def believed(tally):
 
 
 def forgeries(tree, weights, count):
-    """So many datagrams, of each kind and for each other member, that carry no seal of the run, or a wrong one."""
+    """This many datagrams, of each kind and for each other member, that carry no seal of the run, or a wrong one."""
     dice, texts = random.Random(2), []
     for sender in (1, 2):
         texts += datagrams_of(tree, b"a/b", record("a/b", "b-1.0", b"forged"), sender).values()
@@ -335,13 +335,13 @@ def forged(tally):
         tally.add("forged datagrams that are heard", "" if all(it[0] == 0 for it in tallies.values()) else f"{tallies}")
         wanted = [b"dpbn: member %d seals otherwise: another key, listing, weights or members" % me for me in (1, 2)]
         told = sorted(line for line in lines_of(folder, 0) if others(line))
-        tally.add("what is told of forged datagrams", "" if told == wanted else f"{told[:5]}")
-        tally.add("the log behind forged datagrams", "" if contents(f"{folder}/logs/node-0.log") == before else "it changed")
+        tally.add("what is reported of forged datagrams", "" if told == wanted else f"{told[:5]}")
+        tally.add("the log after forged datagrams", "" if contents(f"{folder}/logs/node-0.log") == before else "it changed")
         peer = begun(folder, 1, keyed(port))
         held = [has_told(folder, me, node_line(me, i=1)[:-1]) for me in (0, 1)]
         over(peer)
         over(node)
-        tally.add("a peer behind forged datagrams", "" if all(held) else f"{held}")
+        tally.add("a peer after forged datagrams", "" if all(held) else f"{held}")
 
 
 def flipped(tally):
@@ -367,17 +367,17 @@ def flipped(tally):
             flood(mouth, ("127.0.0.1", port), (one(number) for number in range(FLIPPED)))
             tallies, _ = settled(folder, 0)
             tally.add("noise and flipped bits", "" if tallies[2][0] == 0 and tallies[2][1] > FLIPPED / 2 else f"{tallies}")
-            tally.add("the log behind noise and flipped bits", "" if contents(f"{folder}/logs/node-0.log") == before else "it changed")
+            tally.add("the log after noise and flipped bits", "" if contents(f"{folder}/logs/node-0.log") == before else "it changed")
             mouth.sendto(genuine[0], ("127.0.0.1", port))
-            tally.add("a genuine one behind them", "" if settled(folder, 0)[0][2][0] == 1 else f"{seen(folder, 0)}")
+            tally.add("a genuine one after them", "" if settled(folder, 0)[0][2][0] == 1 else f"{seen(folder, 0)}")
         over(node)
         told = [line for line in lines_of(folder, 0) if others(line)]
         print(f"tests/run: {FLIPPED:,} of noise and flipped bits: {tallies[2][1]:,} were read, and none was heard", flush=True)
-        tally.add("what is told of noise and flipped bits", "" if len(told) == 1 and b"member 2 seals otherwise" in told[0] else f"{told[:5]}")
+        tally.add("what is reported of noise and flipped bits", "" if len(told) == 1 and b"member 2 seals otherwise" in told[0] else f"{told[:5]}")
 
 
 def strangers_of_the_run(tally):
-    """A member with another key, other weights or another listing is heard by none, and told by name, once; the others go on without."""
+    """A member with another key, other weights or another listing is heard by none, and reported by name, once; the others go on without."""
     for name, more, files in (("key", keyed, None), ("weights", None, None), ("listing", None, "other")):
         with tempfile.TemporaryDirectory() as folder:
             lay_run(folder)
@@ -397,10 +397,10 @@ def strangers_of_the_run(tally):
             back = has_told(folder, 2, *(line.replace(b"member 2", b"member %d" % me) for me in (0, 1)))
             for node in (*two, third):
                 over(node)
-            tally.add(f"two nodes beside one with another {name}", "" if all(held) and all(named) and back else f"held {held}, named {named}, back {back}")
+            tally.add(f"two nodes next to one with another {name}", "" if all(held) and all(named) and back else f"held {held}, named {named}, back {back}")
             once = [lines_of(folder, me).count(line) for me in (0, 1)]
             heard = [seen(folder, me)[0][2][0] for me in (0, 1)] + [it[0] for it in seen(folder, 2)[0].values()]
-            tally.add(f"what is heard of another {name}", "" if once == [1, 1] and not any(heard) else f"told {once} times, heard {heard}")
+            tally.add(f"what is heard of another {name}", "" if once == [1, 1] and not any(heard) else f"reported {once} times, heard {heard}")
 
 
 def replayed(tally, packages=30):
@@ -440,7 +440,7 @@ def replayed(tally, packages=30):
             over(node)
             print(f"tests/run: {len(sent):,} datagrams of an earlier run sent again: {heard[1]:,} were read, and {heard[0]} heard", flush=True)
             tally.add("what was sent, sent again in another run", "" if heard[0] == 0 and heard[1] > 0 else f"{heard}")
-            tally.add("the log behind another run's datagrams", "" if contents(f"{folder}/logs/node-0.log") == before else "it changed")
+            tally.add("the log after another run's datagrams", "" if contents(f"{folder}/logs/node-0.log") == before else "it changed")
 
 
 def agreed_of_two(tally, folder, when):
@@ -451,7 +451,7 @@ def agreed_of_two(tally, folder, when):
 
 
 def beside_a_flood(tally, packages=150):
-    """Two nodes that build, and the same beside forged datagrams from the third one's address at both."""
+    """Two nodes that build, and the same next to forged datagrams from the third one's address at both."""
     took = []
     for is_flooded in (False, True):
         with tempfile.TemporaryDirectory() as folder:
@@ -475,7 +475,7 @@ def beside_a_flood(tally, packages=150):
             for node in two:
                 over(node)
             tally.add(f"two nodes {'beside a flood' if is_flooded else 'alone'}", "" if all(held) else f"{held}")
-    print(f"tests/run: two nodes, {packages} packages: {took[0][0]:.1f} s, and beside {took[1][1]:,} forged datagrams {took[1][0]:.1f} s", flush=True)
+    print(f"tests/run: two nodes, {packages} packages: {took[0][0]:.1f} s, and next to {took[1][1]:,} forged datagrams {took[1][0]:.1f} s", flush=True)
 
 
 # ---- requests that come again
@@ -495,7 +495,7 @@ def asked_for(mouth, to, request, seconds):
 
 
 def comes(mouth, front, seconds):
-    """Whether a datagram that begins so comes within so many seconds."""
+    """Whether a datagram that begins so comes within this many seconds."""
     until = time.monotonic() + seconds
     while time.monotonic() < until:
         try:
@@ -508,7 +508,7 @@ def comes(mouth, front, seconds):
 
 def repeated(tally, seconds=4):
     """A member that is in sends one request over and over: a node answers it once in a second, and drops and counts the others. It answers
-    at once what is asked of another unit, and what comes from another member's address."""
+    at once what is asked of another unit, and datagrams from another member's address."""
     with tempfile.TemporaryDirectory() as folder:
         key = lay_run(folder, *many(2))
         port = free_ports(1)
@@ -531,7 +531,7 @@ def repeated(tally, seconds=4):
             tally.add("a request sent over and over", "" if seconds - 1 <= len(came) <= seconds + 1 and sent > 200 * seconds else f"sent {sent}, {came}")
             for name, it, path in (("for another unit", mouth, b"p/n1"), ("from another member's address", other, b"p/n0")):
                 it.sendto(request(path), node)
-                tally.add(f"a request {name} behind it", "" if comes(mouth, front(b"DPB2", 5, 0, tree, path), 0.9) else "it isn't answered at once")
+                tally.add(f"a request {name} after it", "" if comes(mouth, front(b"DPB2", 5, 0, tree, path), 0.9) else "it isn't answered at once")
             heard, otherwise, again = [now - then for now, then in zip(settled(folder, 0)[0][2][:3], before[2])]
             # the request for the other unit is one more that is heard; an answer may have been overlooked
             right = otherwise == 0 and heard + again == sent + 1 and len(came) + 1 <= heard <= len(came) + 2
@@ -540,13 +540,13 @@ def repeated(tally, seconds=4):
 
 
 def silent_for(folder, me, member):
-    """For how many seconds it heard nothing of a member, as it told last."""
+    """For how many seconds it heard nothing of a member, as it printed last."""
     told = re.findall(rb"^dpbn: member %d: heard \d+, last (\d+) s ago" % member, contents(f"{folder}/err-{me}"), re.MULTILINE)
     return int(told[-1]) if told else 0
 
 
 def faults_again(tally, count=50):
-    """A member that is in sends what means nothing: the fault is told once, and then how often it came again; and how many seconds ago
+    """A member that is in sends what means nothing: the fault is reported once, and then how often it came again; and how many seconds ago
     the member was heard."""
     with tempfile.TemporaryDirectory() as folder:
         key = lay_run(folder)

@@ -1,4 +1,4 @@
-"""How ./dpbr and ./dpbn start: what they answer before the program is built, which programs they build, and what tools/prove tells."""
+"""How ./dpbr and ./dpbn start: what they answer before the program is built, which programs they build, and what tools/prove prints."""
 import contextlib
 import importlib.machinery
 import importlib.util
@@ -10,7 +10,7 @@ import tempfile
 
 from topics.tally import EXAMPLES, PROGRAM, TESTS, TOP, contents, difference
 
-# in the place of tools/prove: it notes what is asked of it, and makes programs that tell their words
+# in the place of tools/prove: it notes what is asked of it, and makes programs that print their words
 PROVE = """#!/bin/sh
 echo "$@" >> "$(dirname "$0")/asked"
 for program; do
@@ -22,7 +22,7 @@ done
 BUILT = {"dpbr": PROGRAM, "dpbn": f"{TOP}/crates/dpbn/out/dpbn"}
 SMALL = f"{TOP}/crates/dpbr_quick/out/dpbr_quick"
 CALLS = {"dpbr": ("status", "audit", "run", "wayon"), "dpbn": ("node", "cluster", "build", "key")}
-# words that are no subcommands, some of them like one, two or three, one in letters of two bytes, and one with words behind it
+# words that are no subcommands, some of them like one, two or three, one in letters of two bytes, and one with words after it
 UNKNOWN = ("state", "stat", "statu", "statusaudit", "audits", "tidua", "rum", "nur", "ran", "way", "wayo", "yawno", "hello", "hel", "x", "", "a b",
            "stätus", "nodes", "nod", "done", "clusters", "kluster", "built", "bild", "keys", "ky", "eky", "'", "\n", "WORD", "status\n")
 
@@ -70,7 +70,7 @@ def asked(folder):
 
 def starts(tally):
     """Help is answered with nothing built; `status` and `audit` build the small program and no other; each other call builds its own. What
-    is built is taken as it is, until a source is newer, and the whole program is taken where it is there."""
+    is built is taken as it is, until a source is newer, and the whole program is taken if it is there."""
     with checkout() as folder:
         for name, words in (("dpbr", []), ("dpbr", ["run", "--help"]), ("dpbn", ["nodes"])):
             got = run_in(folder, f"./{name}", *words)

@@ -24,16 +24,16 @@ class Tally:
         self.failed = 0
         # the names of those that failed
         self.names = []
-        # what was not run for want of a tool or a program, and how that is had
+        # what was not run for lack of a tool or a program, and how that is obtained
         self.skipped = []
 
     def skip(self, name, lacking):
-        """Notes a part that can't be run here, with what it lacks and how that is had. The last lines of all tests say so once more."""
+        """Notes a part that can't be run here, with what it lacks and how that is obtained. The last lines of all tests say so once more."""
         self.skipped.append(f"{name}: {lacking}")
         print(f"tests/run: skipped: {name}: {lacking}", flush=True)
 
     def add(self, name, problem):
-        """One more test, which passed where there is no problem to tell."""
+        """One more test, which passed if there is no problem."""
         if problem:
             self.failed += 1
             self.names.append(name)
@@ -42,7 +42,7 @@ class Tally:
             self.passed += 1
 
     def run(self, name, part, *more):
-        """Runs a part of the tests. One that breaks off is a failure, and what stands behind it goes on."""
+        """Runs a part of the tests. One that breaks off is a failure, and the next one runs."""
         try:
             part(self, *more)
         except Exception as error:
@@ -85,7 +85,7 @@ def cut(line):
 
 
 def text_difference(one, other):
-    """How a text differs from the one that is wanted: as a diff, and the place where they part."""
+    """How a text differs from the one that is required: as a diff, and the position of the first difference."""
     got, wanted = (text.decode(errors="backslashreplace").split("\n") for text in (one, other))
     lines = [cut(line) for line in difflib.unified_diff(wanted, got, "wanted", "got", n=1, lineterm="")]
     if len(lines) > MOST_LINES:

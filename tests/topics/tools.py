@@ -1,11 +1,13 @@
-"""tools/expand-listing on stored dumps, and what dpbr makes of its output; tools/why-ignored on stored listings; tools/draw-trace on
-the example, a short and a long trace; what tools/make-builds refuses; what tools/unpack-log does with files that can't stand in one
-folder, and where it is disturbed; and else what publishers take away (packages.py)."""
+"""tools/expand-listing on stored dumps, and what dpbr makes of its output; tools/why-ignored on stored listings. tools/draw-trace on
+the example, a short and a long trace. What tools/make-builds refuses, and what tools/unpack-log does with files that can't be in
+one folder, and when it is disturbed. The rest of both is in packages.py."""
 import contextlib
 import ctypes
 import json
 import os
 import re
+import resource
+import shutil
 import signal
 import subprocess
 import sys
@@ -17,7 +19,7 @@ from topics import driver, packages
 from topics.tally import EXAMPLES, TESTS, TOP, Answer, answer, contents, difference
 
 ROW, MOST_HEIGHT = 24, 1700
-# of so many packages' builds pictures are drawn that fold their events
+# of this many packages' builds pictures are drawn that fold their events
 FOLDED = (84, 1667)
 SIGNALS = (signal.SIGHUP, signal.SIGINT, signal.SIGTERM)
 # how large a build may be, and with --digests where enough files could give way
@@ -32,7 +34,7 @@ def asked_of(listing, trace, is_single):
 
 
 def drawn(*words):
-    """What draw-trace prints, in the place of whose program stands what the driver answers: so its sources are compiled once for all
+    """What draw-trace prints, with the driver's answers in place of its program: so its sources are compiled once for all
     pictures, if it isn't built."""
     asked = asked_of(*map(contents, words[-2:]), "--single" in words)
     with tempfile.TemporaryDirectory() as folder:
@@ -56,7 +58,7 @@ def life(n):
 
 
 def builds(count, events):
-    """A listing of so many packages, and the trace of the first so many events of their builds, one after the other."""
+    """A listing of this many packages, and the trace of the first events of their builds, this many, one after the other."""
     listing = "".join(f"a/p{n}.FULLPKGNAME=p{n}-1\n" for n in range(count))
     return listing, {"events": [event for n in range(count) for event in life(n)][:events], "members": 3}
 
@@ -70,7 +72,7 @@ def lone():
 
 
 def picture(tally, name, listing, trace, *words):
-    """The picture of the trace, and its height; or nothing, which is told."""
+    """The picture of the trace, and its height; or nothing, which is reported."""
     with tempfile.TemporaryDirectory() as folder:
         for file, text in (("listing", listing), ("trace", json.dumps(trace))):
             with open(f"{folder}/{file}", "w") as out:
@@ -83,7 +85,7 @@ def picture(tally, name, listing, trace, *words):
 
 
 def agreed(svg):
-    """How many packages the bars stand for."""
+    """How many packages the bars represent."""
     named, counted = re.findall(">agreed: ([^<]*)", svg), re.findall(">([0-9]+) packages agreed<", svg)
     return sum(len(paths.split(", ")) for paths in named) + sum(map(int, counted))
 
@@ -138,21 +140,21 @@ driver.ask(lambda: [asked_of(*drawing) for drawing in drawings()])
 
 
 def pictures(tally):
-    """The README's picture is the example's, shows the promise that reports a vote, and has its words where nothing else is. Ten
+    """The README's picture is the example's, shows the promise that reports a vote, and has its words at free places. Ten
     events have a row each, and a thousand, or twenty thousand, are folded into a picture of some rows."""
     done = drawn(f"{EXAMPLES}/listing", f"{EXAMPLES}/trace")
     wanted = (contents(f"{EXAMPLES}/take-over.svg"), b"", 0)
     tally.add("draw-trace of the example", difference((done.stdout, done.stderr, done.returncode), wanted))
     lies, count = covered(contents(f"{EXAMPLES}/take-over.svg"))
-    tally.add("draw-trace of the example, where its words stand", f"{lies} of {count} lie on something" if lies or count != 12 else "")
+    tally.add("draw-trace of the example, the places of its words", f"{lies} of {count} lie on something" if lies or count != 12 else "")
     telling = (b">7 promise: it voted for node 0's build<", b">8 propose node 0's build again<", b">deliver 7 to node 1<")
     told = [text for text in telling if text not in done.stdout]
-    tally.add("draw-trace of the example, what it tells", f"{told} isn't there" if told else "")
+    tally.add("draw-trace of the example, what it says", f"{told} isn't there" if told else "")
     name = "draw-trace of ten events"
     svg, height = picture(tally, name, *builds(1, 10))
     rows, notes = len(set(re.findall('<text x="48" y="([0-9]+)"', svg))), svg.count('width="6" height="6"')
     if svg:
-        # six notes, and the legend's; above and below ten rows stand less than six rows of words
+        # six notes, and the legend's; above and below ten rows there are fewer than six rows of words
         told = (rows, agreed(svg), notes, " events<" in svg, 10 * ROW < height < 16 * ROW)
         tally.add(name, "" if told == (10, 1, 7, False, True) else f"{told} in {height} pixels")
     for count in FOLDED:
@@ -166,15 +168,15 @@ def pictures(tally):
 
 
 def folded(tally, count):
-    """A picture of the builds of so many packages, of twelve events each: a page, whose bars stand for all of them, with its words where
+    """A picture of the builds of this many packages, of twelve events each: a page, whose bars represent all of them, with its words where
     nothing else is and how the list grew."""
     name = f"draw-trace of {12 * count} events"
     svg, height = picture(tally, name, *builds(count, 12 * count))
     if svg:
         tally.add(name, "" if agreed(svg) == count and height < MOST_HEIGHT else f"{agreed(svg)} packages in {height} pixels")
         lies, words = covered(svg)
-        tally.add(f"{name}, where its words stand", f"{lies} of {words} lie on something" if lies or not words else "")
-        tally.add(f"{name}, how the list grew", "" if f">{count} packages after {12 * count} events<" in svg else "it isn't told")
+        tally.add(f"{name}, the places of its words", f"{lies} of {words} lie on something" if lies or not words else "")
+        tally.add(f"{name}, how the list grew", "" if f">{count} packages after {12 * count} events<" in svg else "it isn't reported")
 
 
 def asked(tool, file):
@@ -242,7 +244,7 @@ def refused(tally, name, folder, *words, what=b": a/b: a build of it has at leas
 
 
 def fitting(tally, name, folder, *words, least=0, most=MOST):
-    """make-builds ends with 0, and a build of what it wrote has so many bytes; where there are few to spare it is told."""
+    """make-builds ends with 0, and a build of what it wrote has this many bytes; if there are few to spare it is reported."""
     out, said, status = packages.tool("make-builds", *words, folder)
     size = size_of(made(out)) if status == 0 else 0
     told = b"" if size <= MOST_SPARED else b"make-builds: a/b: %d bytes are left for its names and for what it needs\n" % (MOST - size)
@@ -251,14 +253,14 @@ def fitting(tally, name, folder, *words, least=0, most=MOST):
 
 
 def as_large_as_may_be(paths):
-    """A file for each of these packages, so that a build of all of them has just as many bytes as may be."""
+    """A file for each of these packages, so that a build of all of them has exactly as many bytes as may be."""
     sizes = [MOST // len(paths) - 1_000] * len(paths)
     sizes[0] += MOST - size_of({path: [("x", bytes(size))] for path, size in zip(paths, sizes)})
     return {f"{path.replace('/', ':')}/x": bytes(size) for path, size in zip(paths, sizes)}
 
 
 def limits(tally):
-    """A build may have just so many bytes, with its lines, of one package and of two."""
+    """A build may have exactly this many bytes, with its lines, of one package and of two."""
     for paths in (["a/b"], ["a/b,-x", "a/b,-y"]):
         name, files = f"a build of {len(paths)}", as_large_as_may_be(paths)
         with laid(files) as folder:
@@ -266,13 +268,13 @@ def limits(tally):
             with open(f"{folder}/{list(files)[0]}", "ab") as file:
                 file.write(b"x")
             refused(tally, f"{name}, a byte too large", folder)
-            fitting(tally, f"{name}, a byte too large", folder, "--digests", most=MOST_SPARED)
+            fitting(tally, f"{name}, a byte too large", folder, "--digests", str(MOST), most=MOST_SPARED)
     with laid({"a:b/x": bytes(MOST)}) as folder:
         refused(tally, "a file of as many bytes as a build may have", folder)
 
 
 def single(tally):
-    """With --single packages that differ in the subpackage alone are a build each."""
+    """With --single, packages that differ only in the subpackage are a build each."""
     with laid(as_large_as_may_be(["a/b,-x", "a/b,-y", "a/b,-z"])) as folder:
         with open(f"{folder}/a:b,-x/y", "wb") as file:
             file.write(b"x")
@@ -285,27 +287,27 @@ def single(tally):
 
 
 def many_files(tally):
-    """The lines of many small files count; with --digests so many give way that there is room to spare."""
+    """The lines of many small files count; with --digests this many give way that there is room to spare."""
     for count, size, fewer in ((12_000, 300, 10_800), (14_000, 240, 12_800)):
         with laid({f"a:b/{n:05}": b"x" * size for n in range(count)}) as folder:
             refused(tally, f"{count} files of {size} bytes", folder)
-            fitting(tally, f"{count} files of {size} bytes", folder, "--digests", most=MOST_SPARED)
+            fitting(tally, f"{count} files of {size} bytes", folder, "--digests", str(MOST), most=MOST_SPARED)
             for n in range(fewer, count):
                 os.remove(f"{folder}/a:b/{n:05}")
             fitting(tally, f"{fewer} files of {size} bytes", folder)
     with laid({f"a:b/{n:0250}": b"" for n in range(13_000)}) as folder:
-        refused(tally, "names that leave no room for another", folder, "--digests")
+        refused(tally, "names that leave no room for another", folder, "--digests", str(MOST))
 
 
 def other_names(tally):
-    """A file gives way where it has to, and another stands for it by a name that is no file's and no folder's, and is shorter."""
+    """A file gives way if it has to, and another one replaces it, with a name that no file or folder has, and is shorter."""
     large, small, dot = bytes(2_500_000), bytes(1_000_000), (b"x" * 10)
     for name, files, wanted in (("names of files", {"x": large, "x.sha256": dot, "z": large[1:]}, ["x", "x.sha256", "z.sha256"]),
                                 ("names of folders", {"x": large, "x.sha256/y": dot, "z": large[1:]}, ["x", "x.sha256/y", "z.sha256"]),
                                 ("as few as have to", {"x": large, "y": small, "z": dot}, ["x.sha256", "y", "z"]),
                                 ("none that is short", {"x": large + small, "x.sha256": dot, "z": dot}, ["x", "x.sha256", "z"])):
         with laid({f"a:b/{file}": text for file, text in files.items()}) as folder:
-            out, _, status = packages.tool("make-builds", "--digests", folder)
+            out, _, status = packages.tool("make-builds", "--digests", str(MOST), folder)
             names = [file for file, _ in made(out).get("a/b", [])]
             tally.add(f"make-builds --digests, {name}", "" if (names, status) == (wanted, 0) else f"{names}, status {status}")
 
@@ -318,7 +320,7 @@ def forbidden():
 
 
 def unread(tally):
-    """Where a file can't be read, which elsewhere root always can, nothing is written; nor where something is a link."""
+    """If a file can't be read, or something is a link, nothing is written."""
     if os.geteuid() or sys.platform == "linux":
         with laid({"a:b/x": b"x", "c:d/x": b"x"}) as folder:
             os.chmod(f"{folder}/c:d/x", 0)
@@ -339,7 +341,7 @@ def brought(tally):
 
 
 def odd_package(tally):
-    """Of a package whose files can't stand in one folder the record is written; the others, and both lists, are as always."""
+    """Of a package whose files can't be in one folder the record is written; the others, and both lists, are as always."""
     odd = packages.record("c/d", "d-2", [("x", b"x"), ("x/y", b"y")], built=[packages.MAIN_LINE])
     with tempfile.TemporaryDirectory() as folder:
         said = packages.unpacked(folder, packages.log([packages.HELD_UNIT, packages.note(4, "c/d", packages.build(odd))]))
@@ -381,16 +383,115 @@ def disturbed(tally):
             tally.add(f"unpack-log, ended by {number.name}", "" if (said, tool.returncode, left) == ((b"", b""), 128 + number, ["log"]) else f"{said}, status {tool.returncode}, left {left}")
     with tempfile.TemporaryDirectory() as folder:
         tool = unpacking(folder, text)
+        tool.kill()
+        tool.communicate(timeout=120)
+        end = time.monotonic() + 60
+        while os.listdir(folder) != ["log"] and time.monotonic() < end:
+            time.sleep(0.01)
+        tally.add("unpack-log, killed", "" if os.listdir(folder) == ["log"] else f"left {os.listdir(folder)}")
+    with tempfile.TemporaryDirectory() as folder:
+        tool = unpacking(folder, text)
         os.truncate(f"{folder}/log", 50)
-        said = tool.communicate(timeout=120)
-        tally.add("unpack-log of a log that is cut meanwhile", "" if (said, tool.returncode) == ((b"", b""), 0) else f"{said}, status {tool.returncode}")
+        _, said = tool.communicate(timeout=120)
+        got = packages.files_in(f"{folder}/out") if tool.returncode == 0 else {}
+        # it was read to its end by then, or is refused
+        right = os.listdir(folder) == ["log"] and b" isn't whole at " in said and said.count(b"\n") == 1 if tool.returncode == 1 else \
+            [got.get(f"{path.replace('/', ':')}/x") for path in paths] == [large] * len(paths)
+        tally.add("unpack-log of a log that is cut meanwhile", "" if right else f"{said}, status {tool.returncode}, {sorted(got)}")
+
+
+def flat(tally):
+    """With --flat all files are in one folder. What can't be is refused, with both packages."""
+    with tempfile.TemporaryDirectory() as folder:
+        log = f"{folder}/log"
+        write(log, packages.log(packages.NOTES))
+        said = packages.tool("unpack-log", "--flat", log, f"{folder}/out")
+        tally.add("unpack-log --flat", difference(said, (b"", b"", 0)))
+        wanted = {name.partition("/")[2] or name: text for name, text in packages.FILES.items()}
         got = packages.files_in(f"{folder}/out")
-        tally.add("the same, its files", "" if [got.get(f"{path.replace('/', ':')}/x") for path in paths] == [large] * len(paths) else f"{sorted(got)}")
+        tally.add("the same, its files", "" if got == wanted else f"{sorted(got)}, not {sorted(wanted)}")
+        cases = (("one name", [("x", b"1")], [("x", b"2")], b"a/p and a/q both have a file x: they can't be in one folder"),
+                 ("a file and a folder", [("x", b"1")], [("x/y", b"2")], b"a/p and a/q both have a file x/y: they can't be in one folder"),
+                 ("a folder and a file", [("x/y", b"1")], [("x", b"2")], b"a/p and a/q both have a file x: they can't be in one folder"),
+                 ("the list", [("y", b"1")], [("list", b"2")], b"unpack-log itself and a/q both have a file list: they can't be in one folder"))
+        for name, one, other, told in cases:
+            notes = [packages.note(4, path, packages.build(packages.record(path, "p-1", files))) for path, files in (("a/p", one), ("a/q", other))]
+            write(log, packages.log(notes))
+            said = packages.tool("unpack-log", "--flat", log, f"{folder}/other")
+            right = said == (b"", b"unpack-log: %s: %s\n" % (log.encode(), told), 1) and sorted(os.listdir(folder)) == ["log", "out"]
+            tally.add(f"unpack-log --flat of {name}", "" if right else f"{said}, left {os.listdir(folder)}")
+        odd = packages.record("c/d", "d-2", [("x", b"x"), ("x/y", b"y")])
+        write(log, packages.log([packages.note(4, "c/d", packages.build(odd))]))
+        packages.tool("unpack-log", "--flat", log, f"{folder}/other")
+        got = packages.files_in(f"{folder}/other")
+        tally.add("unpack-log --flat of a record alone", "" if got.get("@record.c:d") == odd and len(got) == 3 else f"{sorted(got)}")
+
+
+def write(path, text):
+    with open(path, "wb") as file:
+        file.write(text)
+
+
+def linked(tally):
+    """With --link a file of the store gets a second name; what has another digest there isn't linked; without a store it is a wrong word."""
+    text = b"z" * 100_000
+    digest = packages.digest(text)
+    stands = f"SHA256 (z.tgz) = {digest}\nSIZE (z.tgz) = {len(text)}\n".encode()
+    with tempfile.TemporaryDirectory() as folder:
+        write(f"{folder}/log", packages.log([packages.note(4, "a/b", packages.build(packages.record("a/b", "b-1", [("z.tgz.sha256", stands)])))]))
+        os.mkdir(f"{folder}/store")
+        for place, stored, count in (("good", text, 2), ("copied", text, 1), ("bad", text[1:], 0)):
+            write(f"{folder}/store/{digest}", stored)
+            words = ["--store", f"{folder}/store", *(["--link"] if place != "copied" else []), "--flat", f"{folder}/log", f"{folder}/{place}"]
+            out, said, status = packages.tool("unpack-log", *words)
+            told = b"unpack-log: a/b lacks z.tgz: %s/store has no file %s\n" % (folder.encode(), digest.encode()) if not count else b""
+            got = packages.files_in(f"{folder}/{place}")
+            links = os.stat(f"{folder}/{place}/z.tgz").st_nlink if "z.tgz" in got else 0
+            right = (out, said, status, links) == (b"", told, 0, count) and got.get("z.tgz", text) == text and ("z.tgz.sha256" in got) == (not count)
+            tally.add(f"unpack-log --link, {place}", "" if right else f"{said}, status {status}, {links} links, {sorted(got)}")
+            os.unlink(f"{folder}/store/{digest}")
+        _, said, status = packages.tool("unpack-log", "--link", f"{folder}/log", f"{folder}/none")
+        tally.add("unpack-log --link without a store", "" if status == 2 and b"--link needs --store" in said else f"{said}, status {status}")
+
+
+def in_parts(tally):
+    """A log of 160 MB is unpacked where a program may have 120 MiB of memory, and where a full disk ends it nothing is left."""
+    large = os.urandom(4_000_000)
+    notes = [packages.note(4, f"p/n{n}", packages.build(packages.record(f"p/n{n}", "n-1", [("x", large)]))) for n in range(40)]
+    with tempfile.TemporaryDirectory() as folder:
+        write(f"{folder}/log", packages.log(notes))
+        limited = lambda: resource.setrlimit(resource.RLIMIT_AS, (120 << 20, 120 << 20))
+        done = subprocess.run([f"{TOP}/tools/unpack-log", f"{folder}/log", f"{folder}/out"], capture_output=True, timeout=120, preexec_fn=limited)
+        sizes = [os.path.getsize(f"{folder}/out/p:n{n}/x") for n in range(40)] if done.returncode == 0 else []
+        tally.add("unpack-log of 160 MB in 120 MiB", "" if sizes == [4_000_000] * 40 else f"{done.stderr!r}, status {done.returncode}")
+        short = lambda: resource.setrlimit(resource.RLIMIT_FSIZE, (1 << 20, 1 << 20))
+        done = subprocess.run([f"{TOP}/tools/unpack-log", f"{folder}/log", f"{folder}/other"], capture_output=True, timeout=120, preexec_fn=short)
+        right = done.returncode == 1 and done.stderr.startswith(b"unpack-log: ") and sorted(os.listdir(folder)) == ["log", "out"]
+        tally.add("unpack-log that can't write", "" if right else f"{done.stderr!r}, status {done.returncode}, left {os.listdir(folder)}")
+
+
+def synced(tally):
+    """Each file and folder is synced before the folder has its name, and the name after that."""
+    if not shutil.which("strace"):
+        tally.skip("unpack-log syncs what it writes", "there is no strace here")
+        return
+    with tempfile.TemporaryDirectory() as folder:
+        write(f"{folder}/log", packages.log(packages.NOTES))
+        words = ["strace", "-f", "-y", "-e", "trace=fsync,rename,renameat,renameat2", "-o", f"{folder}/calls", f"{TOP}/tools/unpack-log", f"{folder}/log", f"{folder}/out"]
+        done = subprocess.run(words, capture_output=True, timeout=120)
+        before, _, after = contents(f"{folder}/calls").decode().partition("rename")
+        count = len(packages.FILES) + len([it for it in os.listdir(f"{folder}/out") if ":" in it]) + 2
+        right = done.returncode == 0 and before.count("fsync(") == count and after.count("fsync(") == 1
+        tally.add("unpack-log syncs what it writes", "" if right else f"{before.count('fsync(')} before, not {count}, {after!r:.200}, {done.stderr!r:.200}")
 
 
 def taken_away(tally):
     odd_package(tally)
     disturbed(tally)
+    flat(tally)
+    linked(tally)
+    in_parts(tally)
+    synced(tally)
 
 
 def case(tally, kind, name):

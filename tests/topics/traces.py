@@ -10,7 +10,7 @@ from topics.memory import refusing
 from topics.programs import stored_cases
 from topics.tally import built_shim, text_difference
 
-# The folders of stored cases of `dpbr run`: those whose builds go out in several pieces stand apart.
+# The folders of stored cases of `dpbr run`: those whose builds go out in several pieces are separate.
 STORED = ("traces", "pieces")
 
 FILES = b'[{"hex":"616263","name":"x"}]'
@@ -57,6 +57,6 @@ def refused_in_turn(tally, folder, name, row):
 def run(tally):
     stored_cases(tally, STORED)
     with tempfile.TemporaryDirectory() as folder:
-        if is_built(tally, "traces, want of memory") and built_shim(tally, folder, "refuse"):
+        if is_built(tally, "traces, lack of memory") and built_shim(tally, folder, "refuse"):
             for name, row in ROWS.items():
                 refused_in_turn(tally, folder, name, row)

@@ -1,10 +1,9 @@
 """`dpbr wayon`: stored cases, words and files that are refused, each in its turn, and the largest builds.
 
-Which list of events is printed is free. So of a way is tested what has to hold of any: the members, weights and events of the
-trace that was given stand first; a bounded number of events is behind them, each the node's own claim for the path on the host, its
-own build of the files that are given for the unit's packages, or a datagram, none at a node that is down; and `dpbr run` takes the
-very bytes that were printed, and then one event more, that asks the node for the path, is refused, as it is held. Of a named case
-what is printed is known, too, where it is not long.
+Which way is printed is free. So a test checks what has to hold of any way. The members, weights and events of the given trace come
+first, and a bounded number of events follows. Each is the node's own claim for the path on the host, its own build of the given
+files, or a datagram, and none is at a node that is down. `dpbr run` takes exactly the bytes that were printed. One more event, that
+asks the node for the path, is refused, since the path is held. Short answers of named cases are stored.
 """
 import json
 import os
@@ -88,7 +87,7 @@ def event_problem(event, asked, up):
 
 
 def form_problem(asked, printed, most):
-    """What is wrong with a trace that was printed behind the given one, which has at most so many events more."""
+    """What is wrong with a trace that was printed after the given one, which has at most this many events more."""
     known = len(asked.trace["events"])
     way = printed["events"][known:]
     if printed["events"][:known] != asked.trace["events"] or any(printed.get(it) != asked.trace.get(it) for it in ("members", "weights")):
@@ -126,7 +125,7 @@ def way_problem(got, folder, words, most):
 
 
 def case(tally, kind, name):
-    """A stored case: the words, the files, and what has to be told; of a way how long it is at most."""
+    """A stored case: the words, the files, and what has to be reported; of a way how long it is at most."""
     folder = f"{TESTS}/{kind}/{name}"
     words = contents(f"{folder}/words").decode().split()
     got = answer(words, folder)
@@ -139,7 +138,7 @@ def case(tally, kind, name):
 
 
 def no_calls(tally):
-    """Words that are no call: one too few or too many, and a number that is none or past its range; and numbers that are ones."""
+    """Wrong arguments: one too few or too many, and a number that is malformed or out of range; and good numbers."""
     words = ["wayon", "listing", "trace", "1", "devel/gettext", "4", "builds"]
     wrong = [words[:count] for count in range(1, len(words))] + [[*words, "more"], [*words, "--help"], ["ways", *words[1:]], ["--single", *words]]
     wrong += [[*words[:3], number, *words[4:]] for number in ("256", "-1", "", "1.0", "x", "99999999999999999999")]
@@ -155,7 +154,7 @@ def no_calls(tally):
 
 
 def refusals(tally):
-    """Which of several faults is told: files and the path in the order of the words, then the trace's events, then the way's."""
+    """Which of several faults is reported: files and the path in the order of the words, then the trace's events, then the way's."""
     good, trace, builds, refused = f"{EXAMPLES}/listing", f"{EXAMPLES}/trace", f"{EXAMPLES}/builds", '{"events":[{"event":"nudge","node":0}],"members":3}'
     long = "a/" + "x" * 254
     with tempfile.TemporaryDirectory() as folder:
@@ -178,7 +177,7 @@ def refusals(tally):
 
 
 def large_builds(tally):
-    """Files that just fit the limit of a build, and a byte more; the claim's round, the greatest and one more, stands in the build."""
+    """Files that exactly fit the limit of a build, and a byte more; the claim's round, the greatest and one more, is in the build."""
     claimed = '{"above":%d,"event":"claim","host":3,"node":0,"path":"a/b"}'
     for name, event, size, fault in (("the largest build", "", 4194158, 0), ("a build a byte too large", "", 4194159, 907),
                                      ("the largest build by its round", claimed % 7, 4194158, 0), ("a build too large by its round", claimed % 8, 4194158, 907)):

@@ -1,0 +1,125 @@
+"""Builds that fail for a reason of the host: with 75, or by a signal that tools/build-jobs didn't send. The minutes of the driver are made
+short by a module that is loaded before it."""
+import os
+import re
+import signal
+import subprocess
+import sys
+import time
+
+from topics.played import LIMIT, MAKE, add, end_builds, has_text, node_alone, read, until
+from topics.tally import TOP
+
+# build-jobs with minutes of this many seconds
+SHORT = """import sys
+sys.path.insert(0, {top!r} + "/tools")
+from dpbn_tools.driver import health, main
+health.MINUTE, health.LONGEST = {minute}, {minute} * 30
+main.main()
+"""
+
+
+class Driver:
+    """build-jobs with short minutes."""
+
+    def __init__(self, node, script, *words, minute=1.0):
+        self.out = f"{node.folder}/driver.{time.monotonic_ns()}"
+        with open(self.out, "xb") as out:
+            self.process = subprocess.Popen([sys.executable, "-c", SHORT.format(top=TOP, minute=minute), *words, node.work, node.log, "--", "sh", "-c", script],
+                                            stdin=subprocess.DEVNULL, stdout=out, stderr=out, env={**os.environ, "TOP": node.folder})
+
+    def lines(self):
+        return [re.sub("^[0-9-]{10} [0-9:]{8} ", "", line) for line in read(self.out).splitlines()]
+
+    def tells(self, line, seconds=LIMIT):
+        return until(lambda: any(re.fullmatch(line, told) for told in self.lines()), seconds)
+
+    def begun(self, unit=""):
+        return sum(line.startswith(f"> {unit}") for line in self.lines())
+
+    def end(self):
+        self.process.send_signal(signal.SIGTERM)
+        return self.process.wait(LIMIT)
+
+
+def given_back(tally):
+    """A build that ends with 75, or by a signal, isn't marked, and is begun again later."""
+    for what, end in (("75", "exit 75"), ("a signal", "kill -KILL $$")):
+        with node_alone() as node:
+            driver = Driver(node, f'[ -e "$TOP/mended" ] || {{ echo > "$TOP/tried"; {end}; }}; ' + MAKE, minute=2.0)
+            name = node.post("a/b")
+            why = "status 75" if what == "75" else "signal 9"
+            told = driver.tells(f"~ a/b is given back: {why}; it is tried here again after 0 min")
+            began = time.monotonic()
+            left = os.listdir(f"{node.work}/failed"), os.listdir(f"{node.work}/jobs"), until(lambda: not os.listdir(f"{node.work}/begun"), 5)
+            with open(f"{node.folder}/mended", "w"):
+                made = node.take(name)
+            took = time.monotonic() - began
+            add(tally, f"a build that ends with {what}", told and left == ([], [name], True) and bool(made) and took > 1, told, left, took, driver.lines())
+            driver.end()
+
+
+def again_and_again(tally):
+    """The fifth such end of one unit in a row is its failure, but only if others succeed here meanwhile."""
+    with node_alone() as node:
+        driver = Driver(node, f'[ $PKGPATH != a/bad ] || exit 75; {MAKE}', minute=0.2)
+        name = node.post("a/bad")
+        for number in range(3):
+            node.take(node.post(f"b/p{number}"))
+            time.sleep(0.3)
+        why = node.failed(name)
+        add(tally, "five such ends of one unit", bool(why) and why.startswith("a/bad: 5 times in a row: status 75\n") and driver.begun("a/bad") == 5, why, driver.lines())
+        driver.end()
+    with node_alone() as node:
+        driver = Driver(node, "exit 75", minute=0.1)
+        name = node.post("a/bad")
+        tried = until(lambda: driver.begun("a/bad") >= 7, 30)
+        add(tally, "seven of one unit, and nothing else succeeds", tried and not os.listdir(f"{node.work}/failed"), driver.lines(), name)
+        driver.end()
+
+
+def away(tally):
+    """After three such ends of different units the host is away until --ready says otherwise; that is one line, and a file for the node."""
+    with node_alone() as node:
+        ready = 'echo >> "$TOP/asked"; [ -e "$TOP/up" ]'
+        driver = Driver(node, f'[ -e "$TOP/up" ] || exit 75; {MAKE}', "-j", "2", "--ready", ready, minute=3.0)
+        names = [node.post(f"a/p{number}") for number in range(6)]
+        is_away = until(lambda: has_text(f"{node.work}/away"))
+        # what was about to begin has begun, and ended
+        time.sleep(1)
+        told = [line for line in driver.lines() if line.startswith("~ this host begins nothing until its --ready command ends with 0: ")]
+        count = driver.begun()
+        add(tally, "a host that can't build", is_away and len(told) == 1 and 3 <= count <= 5 and os.listdir(f"{node.work}/failed") == [], told, count, driver.lines())
+        time.sleep(7)
+        asked = read(f"{node.folder}/asked").count("\n")
+        add(tally, "the same, how often it is asked", 1 <= asked <= 4 and driver.begun() == count and has_text(f"{node.work}/away"), asked, driver.lines())
+        with open(f"{node.folder}/up", "w"):
+            made = [bool(node.take(name)) for name in names]
+        add(tally, "the same, once it can", all(made) and not os.path.exists(f"{node.work}/away"), made, driver.lines())
+        driver.end()
+
+
+def away_without_a_command(tally):
+    """Without --ready one build is tried after a while, and a file of a driver that was killed doesn't stay."""
+    with node_alone() as node:
+        with open(f"{node.work}/away", "w", encoding="ascii") as file:
+            file.write("an earlier run\n")
+        driver = Driver(node, f'[ -e "$TOP/up" ] || exit 75; {MAKE}', minute=1.0)
+        gone = until(lambda: not os.path.exists(f"{node.work}/away"))
+        names = [node.post(f"a/p{number}") for number in range(4)]
+        is_away = until(lambda: has_text(f"{node.work}/away"))
+        time.sleep(0.3)
+        first = driver.begun()
+        back = driver.tells("~ this host begins builds again, .*")
+        again = until(lambda: has_text(f"{node.work}/away") and driver.begun() > first)
+        with open(f"{node.folder}/up", "w"):
+            made = [bool(node.take(name)) for name in names]
+        right = gone and is_away and first == 3 and back and again and all(made) and not os.path.exists(f"{node.work}/away")
+        add(tally, "a host that can't build, and is tried", right, gone, is_away, first, back, again, made, driver.lines())
+        driver.end()
+        end_builds(node)
+
+
+def run(tally):
+    for one in (given_back, again_and_again, away, away_without_a_command):
+        one(tally)

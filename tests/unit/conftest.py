@@ -1,0 +1,7 @@
+"""Unit tests of tools/dpbn_tools, by pytest: `pytest tests/unit`."""
+import os
+import sys
+
+TOP = os.path.dirname(os.path.dirname(os.path.dirname(os.path.abspath(__file__))))
+sys.path[:0] = [f"{TOP}/tools", f"{TOP}/tests"]
+sys.dont_write_bytecode = True

@@ -1,0 +1,405 @@
+"""The driver's parts, one by one, with what the system may refuse."""
+import hashlib
+import os
+import stat
+import subprocess
+import time
+
+import pytest
+
+from dpbn_tools import log as logs
+from dpbn_tools.driver import build as builds, health as healths, held as helds, lines as all_lines, options as words, workfolder
+from dpbn_tools.driver.build import Build, adopted, ended_by
+from dpbn_tools.driver.buildlogs import shift
+from dpbn_tools.driver.command import helper
+from dpbn_tools.driver.driver import Driver
+from dpbn_tools.driver.health import Health
+from dpbn_tools.driver.held import Held
+from dpbn_tools.driver.job import Job, NoJob
+from dpbn_tools.driver.limits import BadLimits, read_limits
+from dpbn_tools.driver.lines import Lines
+from dpbn_tools.driver.times import Times
+from dpbn_tools.driver.transfers import Hosts
+from dpbn_tools.driver.workfolder import Replaced, WorkFolder, put
+from topics import packages
+
+
+def job(unit="a/b", paths=()):
+    text = f"@tree {'5a' * 32}\n@unit {unit}\n" + "".join(f"@package {path}\n" for path in paths or (unit,))
+    return Job(hashlib.sha256(text.encode()).hexdigest(), (text + "@host 1\n@claim 1.1\n").encode())
+
+
+def driver(tmp_path, *more):
+    (tmp_path / "log").write_bytes(packages.log([]))
+    return Driver(words.options([*more, f"{tmp_path}/work", f"{tmp_path}/log", "--", "true"]), Lines(None))
+
+
+# ---- lines
+
+def test_a_trouble_is_told_when_it_begins_and_each_hour(monkeypatch):
+    clock = [1000.0]
+    monkeypatch.setattr(all_lines.time, "monotonic", lambda: clock[0])
+    lines = Lines(None)
+
+    def count():
+        return len(lines.last)
+
+    for _ in range(3600):
+        clock[0] += 5
+        lines.tell_once("the disk is full", "disk")
+    assert count() == 5
+    clock[0] += 120
+    lines.tell_once("the disk is full", "disk")
+    assert count() == 6
+
+
+def test_lines_that_wait_are_bounded():
+    reads, writes = os.pipe()
+    lines = Lines(writes)
+    for number in range(all_lines.MAX_WAITING + 20_000):
+        lines.tell(str(number))
+    assert lines.waiting.qsize() <= all_lines.MAX_WAITING and lines.lost > 0
+    os.close(reads)
+    lines.close(1)
+
+
+# ---- the work folder
+
+def test_a_file_that_cannot_be_written_leaves_nothing(tmp_path, monkeypatch):
+    monkeypatch.setattr(os, "fsync", lambda _: (_ for _ in ()).throw(OSError(28, "No space left on device")))
+    with pytest.raises(OSError):
+        put(str(tmp_path), "name", ["x" * 100_000])
+    assert os.listdir(tmp_path) == []
+
+
+def test_a_file_is_on_the_disk_before_it_has_its_name(tmp_path, monkeypatch):
+    calls, fsync, rename = [], os.fsync, os.rename
+
+    def synced(number):
+        it = os.fstat(number)
+        calls.append("folder" if stat.S_ISDIR(it.st_mode) else it.st_size)
+        fsync(number)
+
+    monkeypatch.setattr(os, "fsync", synced)
+    monkeypatch.setattr(os, "rename", lambda old, new: (calls.append("rename"), rename(old, new)))
+    put(str(tmp_path), "name", ["x" * 10_000, "y" * 10_000])
+    assert calls == [20_000, "rename", "folder"]
+
+
+@pytest.mark.parametrize("number", [5, 13, 40, 110, 116])
+def test_an_error_at_the_lock_ends_nothing(tmp_path, monkeypatch, number):
+    own = driver(tmp_path)
+    assert own.work.lock() == ""
+    real = os.stat
+    monkeypatch.setattr(os, "stat", lambda path, **more: (_ for _ in ()).throw(OSError(number, "refused")) if str(path).endswith("/lock") else real(path, **more))
+    own.guarded("lock", own.work.check)
+    monkeypatch.setattr(os, "stat", real)
+    assert any("it goes on in a while" in line for line in own.lines.last)
+
+
+def test_a_lock_that_is_gone_for_a_moment(tmp_path, monkeypatch):
+    work = WorkFolder(f"{tmp_path}/work")
+    work.lock()
+    monkeypatch.setattr(workfolder, "GONE", 0.2)
+    os.rename(f"{tmp_path}/work", f"{tmp_path}/old")
+    work.check()
+    time.sleep(0.3)
+    with pytest.raises(Replaced):
+        work.check()
+
+
+def test_other_errors_of_locks_are_raised(tmp_path, monkeypatch):
+    work = WorkFolder(f"{tmp_path}/work")
+    monkeypatch.setattr(workfolder.fcntl, "flock", lambda *_: (_ for _ in ()).throw(OSError(5, "Input/output error")))
+    with pytest.raises(OSError):
+        work.lock()
+
+
+# ---- the loop
+
+@pytest.mark.parametrize("error", [MemoryError(), AttributeError("x"), OSError(28, "full"), RecursionError()])
+def test_no_error_of_a_step_ends_the_loop(tmp_path, error):
+    own = driver(tmp_path)
+    own.guarded("step", lambda: (_ for _ in ()).throw(error))
+    assert any("it goes on in a while" in line for line in own.lines.last)
+    own.guarded("step", lambda: pytest.fail("it is tried again at once"))
+
+
+def test_a_folder_that_cannot_be_laid_out_leaves_nothing(tmp_path, monkeypatch):
+    own = driver(tmp_path)
+    for name in ("chmod", "mkfifo"):
+        with monkeypatch.context() as patched:
+            patched.setattr(builds.os, name, lambda *_: (_ for _ in ()).throw(OSError(24, "Too many open files")))
+            for _ in range(3):
+                build = Build(job(), 0)
+                with pytest.raises(OSError):
+                    own.steps.lay(build)
+    assert os.listdir(f"{tmp_path}/work/build") == [] and os.listdir(f"{tmp_path}/work/begun") == []
+
+
+def test_a_folder_in_which_something_is_mounted_stays(tmp_path, monkeypatch):
+    os.makedirs(tmp_path / "x" / "ports")
+    with monkeypatch.context() as patched:
+        patched.setattr(builds, "printed_by", lambda *_: f"/dev/sd0a on {tmp_path}/x/ports type ffs (local)\n".encode())
+        assert not any(builds.remove_folder(f"{tmp_path}/{it}") for it in ("x", "x/ports")) and (tmp_path / "x" / "ports").is_dir()
+    assert builds.remove_folder(f"{tmp_path}/x")
+
+
+def test_a_folder_without_a_command_is_not_taken_over(tmp_path):
+    build = Build(job(), 0)
+    build.make(str(tmp_path))
+    assert adopted(build.folder) and not adopted(build.folder).is_alive() and adopted(build.folder).status() is None
+    os.unlink(build.file("about"))
+    assert adopted(build.folder) is None
+
+
+@pytest.mark.parametrize("text, wanted", [("exit 0 1.5 synced\n", ("exit", 0, 1.5, True)), ("signal 9 0.0 synced\n", ("signal", 9, 0.0, True)),
+                                          (" " * 100, None), ("exit 0 1.5 syn", None), ("", None)])
+def test_statuses(text, wanted):
+    assert ended_by(text) == wanted
+
+
+# ---- the log
+
+def test_a_note_of_which_a_read_was_refused_is_taken_again(tmp_path, monkeypatch):
+    note = packages.note(4, "a/b", packages.build(packages.record("a/b", "b-1", [("x", b"x")])))
+    (tmp_path / "log").write_bytes(packages.log([note]))
+    held = Held(f"{tmp_path}/log")
+    with monkeypatch.context() as patched:
+        patched.setattr(logs, "read_note", lambda *_: (_ for _ in ()).throw(OSError(5, "refused")))
+        with pytest.raises(OSError):
+            held.look()
+    held.look()
+    assert list(held.records) == [b"a/b"] and held.units == {b"a/b"}
+    with open(tmp_path / "log", "r+b") as file:
+        file.truncate(0)
+        file.write(packages.log([]))
+    held.look()
+    assert (held.records, held.units) == ({}, set())
+
+
+def test_a_long_log_is_read_in_parts(tmp_path, monkeypatch):
+    notes = [packages.note(4, f"a/p{n}", packages.build(packages.record(f"a/p{n}", "p-1", []))) for n in range(100)]
+    (tmp_path / "log").write_bytes(packages.log(notes))
+    monkeypatch.setattr(helds, "LONGEST_LOOK", 0)
+    held, looks = Held(f"{tmp_path}/log"), 0
+    while not held.is_read:
+        held.look()
+        looks += 1
+    assert len(held.units) == 100 and looks > 50
+
+
+# ---- jobs, limits, logs, times
+
+@pytest.mark.parametrize("text", [b"", b"@unit a/b\n", b"\xff" * 100, b"@tree x\n"])
+def test_what_is_no_job(text):
+    with pytest.raises(NoJob):
+        Job(hashlib.sha256(text).hexdigest(), text)
+
+
+@pytest.mark.parametrize("line", ["a/b limit", "a/b limit x", "a/b most 3", "limit 3", "b limit 3", "a/b limit -1"])
+def test_bad_limits(tmp_path, line):
+    (tmp_path / "limits").write_text(f"x/y free 3\n\n{line}\n")
+    with pytest.raises(BadLimits, match="line 3"):
+        read_limits(f"{tmp_path}/limits")
+
+
+def test_limits_take_paths_in_any_spelling(tmp_path):
+    (tmp_path / "limits").write_text("x/y,b,a,-main silent 5  # why\n")
+    assert read_limits(f"{tmp_path}/limits") == {(b"x/y,a,b,-main", "silent"): 5}
+
+
+def test_logs_move_up(tmp_path):
+    for number in range(5):
+        shift(f"{tmp_path}/x.log", 3)
+        (tmp_path / "x.log").write_text(str(number))
+    assert {it.name: it.read_text() for it in tmp_path.iterdir()} == {"x.log": "4", "x.log.1": "3", "x.log.2": "2"}
+
+
+def test_times_have_whole_lines(tmp_path):
+    times = Times(f"{tmp_path}/times")
+    (tmp_path / "times").write_text("x/y 1.0 5 0\nx/z 3")
+    times.add(job(paths=("a/b,-docs", "a/b,-main")), 93.44, 1234)
+    assert (tmp_path / "times").read_text() == "x/y 1.0 5 0\na/b,-docs 93.4 1234 1\n"
+
+
+# ---- hosts
+
+def test_hosts_are_asked_in_turn_and_later_after_failures(monkeypatch):
+    clock = [0.0]
+    monkeypatch.setattr("dpbn_tools.driver.transfers.time.monotonic", lambda: clock[0])
+    hosts, asked = Hosts(), []
+    for _ in range(4):
+        host = hosts.next([3, 1, 2], "x")
+        asked.append(host)
+        if host >= 0:
+            hosts.begins(host)
+            hosts.ends(host, "x", False)
+    assert asked == [3, 1, 2, -1]
+    clock[0] = 5
+    assert hosts.next([3, 1, 2], "x") == 3 and hosts.due([3, 1, 2], "x") == 5
+    for wait in (10, 20, 40):
+        hosts.begins(3)
+        hosts.ends(3, "x", False)
+        assert hosts.due([3], "x") == clock[0] + wait
+        clock[0] += wait
+    assert hosts.next([3], "y") == 3
+    hosts.begins(3)
+    # a host that failed so often is asked for one file at a time
+    assert hosts.next([3], "z") == -1
+
+
+# ---- health
+
+@pytest.fixture
+def health(tmp_path, monkeypatch):
+    clock = [0.0]
+    monkeypatch.setattr(healths.time, "monotonic", lambda: clock[0])
+    told = []
+    it = Health(WorkFolder(f"{tmp_path}/work"), None, lambda: f"{tmp_path}/ready.log", told.append)
+    it.clock, it.told = clock, told
+    return it
+
+
+def test_waits_double_up_to_half_an_hour(health):
+    waits = []
+    for _ in range(8):
+        assert health.unit_failed("a/b", "status 75") == ""
+        waits.append(health.units["a/b"].due - health.clock[0])
+    assert waits == [60, 120, 240, 480, 960, 1800, 1800, 1800]
+
+
+def test_the_fifth_in_a_row_is_a_failure_if_others_succeed(health):
+    for number in range(4):
+        assert health.unit_failed("a/b", "status 75") == ""
+        health.unit_ended("c/d", True)
+    assert health.unit_failed("a/b", "status 75") == "5 times in a row: status 75"
+
+
+def test_three_of_different_units_in_a_row(health):
+    for unit in ("a/b", "a/b", "c/d", "c/d", "e/f"):
+        assert not health.is_away()
+        health.unit_failed(unit, "status 75")
+    assert not health.is_away()
+    health.unit_failed("a/b", "status 75")
+    health.unit_failed("c/d", "status 75")
+    assert health.is_away()
+    health.look()
+    assert os.path.exists(f"{health.work.path}/away")
+    health.clock[0] = 61
+    health.look()
+    assert not health.is_away() and health.most(8) == 1 and not os.path.exists(f"{health.work.path}/away")
+    health.unit_ended("a/b", True)
+    assert health.most(8) == 8
+
+
+def test_a_success_between_them_ends_a_row(health):
+    for unit in ("a/b", "c/d"):
+        health.unit_failed(unit, "status 75")
+    health.unit_ended("x/y", True)
+    for unit in ("e/f", "g/h"):
+        health.unit_failed(unit, "status 75")
+    assert not health.is_away()
+
+
+def test_a_disk_that_stays_full_is_away(health):
+    health.set_short("3 bytes are free")
+    health.look()
+    assert not os.path.exists(f"{health.work.path}/away")
+    health.clock[0] = 61
+    health.set_short("3 bytes are free")
+    health.look()
+    assert os.path.exists(f"{health.work.path}/away")
+    health.set_short("")
+    health.look()
+    assert not os.path.exists(f"{health.work.path}/away")
+
+
+# ---- the supervisor
+
+SUPERVISOR = os.path.join(os.path.dirname(builds.__file__), "supervisor.py")
+
+
+@pytest.mark.parametrize("without", ["", "import os; vars(os).pop('waitid', None); "])
+def test_what_a_command_leaves_is_killed(tmp_path, without):
+    """With waitid and without it, as on systems that haven't got it."""
+    code = f"{without}import runpy, sys; sys.argv = sys.argv[1:]; runpy.run_path({SUPERVISOR!r}, run_name='__main__')"
+    script = f"sleep 1000 & echo $! > {tmp_path}/left; exit 3"
+    life, held = os.pipe()
+    reads, writes = os.pipe()
+    process = subprocess.Popen(["python3", "-c", code, SUPERVISOR, "helper", str(life), str(writes), "2", "-", "sh", "-c", script], pass_fds=(life, writes))
+    os.close(writes)
+    text = b""
+    while not text.endswith(b"exit 3\n"):
+        part = os.read(reads, 100)
+        assert part
+        text += part
+    process.wait()
+    with pytest.raises(ProcessLookupError):
+        for _ in range(100):
+            os.kill(int((tmp_path / "left").read_text()), 0)
+            time.sleep(0.05)
+    for number in (life, held, reads):
+        os.close(number)
+
+
+def test_a_command_that_cannot_be_started():
+    command = helper(["/nonexistent/command"], None, dict(os.environ))
+    while not command.poll():
+        time.sleep(0.01)
+    assert command.result() == "refused 2"
+    command.end()
+
+
+def test_a_helper_ends_with_its_driver(tmp_path):
+    command = helper(["sh", "-c", f"echo $$ > {tmp_path}/pid; sleep 1000"], None, dict(os.environ))
+    while not (tmp_path / "pid").exists() or not (tmp_path / "pid").read_text():
+        time.sleep(0.01)
+    command.end()
+    end = time.monotonic() + 20
+    while not command.poll() and time.monotonic() < end:
+        time.sleep(0.02)
+    assert command.poll() and not command.has_succeeded()
+    with pytest.raises(ProcessLookupError):
+        os.kill(int((tmp_path / "pid").read_text()), 0)
+
+
+def test_a_command_that_has_ended_leaves_no_descriptor():
+    before = sorted(number for number in range(64) if is_open(number))
+    for _ in range(3):
+        command = helper(["true"], None, dict(os.environ))
+        while not command.poll():
+            time.sleep(0.01)
+    assert sorted(number for number in range(64) if is_open(number)) == before
+
+
+def is_open(number):
+    try:
+        os.fstat(number)
+    except OSError:
+        return False
+    return True
+
+
+def test_names_that_come_at_once_are_seen(tmp_path):
+    """Files whose folder is dated alike, since they came within one step of its clock."""
+    os.mkdir(tmp_path / "jobs")
+    names = workfolder.Names(f"{tmp_path}/jobs")
+    for number in range(200):
+        (tmp_path / "jobs" / str(number)).touch()
+        assert str(number) in names.look()
+
+
+def test_a_full_disk_is_asked_again_though_no_job_is_there(tmp_path, monkeypatch):
+    own = driver(tmp_path, "--free", "1000")
+    free = [10]
+    monkeypatch.setattr(own.steps, "free_bytes", lambda: free[0])
+    own.least = 1000
+    own.health.set_short(own.lacking_disk(1000))
+    own.health.short_since -= 100
+    own.health.look()
+    assert os.path.exists(f"{tmp_path}/work/away")
+    free[0], own.free_due, own.keep_due = 2000, 0.0, 0.0
+    own.look_at_rest()
+    own.health.look()
+    assert not os.path.exists(f"{tmp_path}/work/away")

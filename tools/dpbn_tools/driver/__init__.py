@@ -1,0 +1,1 @@
+"""The driver of builds, build-jobs(1)."""
