@@ -887,7 +887,7 @@ def late_claims(tally):
         check(tally, "a node that starts late, what it leaves to others", posted and not told[2], told, [host.lines()[-3:] for host in hosts])
 
 
-# ---- what is sent, and what is kept
+# ---- what is sent, and memory
 
 def came(ears):
     """The kinds of the datagrams that wait at each of these sockets."""
