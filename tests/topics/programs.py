@@ -135,7 +135,7 @@ def readme(tally):
     """The README's lines on files, each as it is there, in a folder with the files that it names: what they print is stored."""
     text = contents(f"{TOP}/README.md").decode()
     lines = re.findall(r"^    (\./dpbr status .*)$", text, re.MULTILINE)
-    lines += [it.strip() for it in re.search(r"^Other commands, the last two.*?\n\n(.*?)\n\n", text, re.DOTALL | re.MULTILINE)[1].split("\n")]
+    lines += [it.strip() for it in re.search(r"^Other commands; the last two.*?\n\n(.*?)\n\n", text, re.DOTALL | re.MULTILINE)[1].split("\n")]
     # what lines that begin so print on standard output and on standard error
     stored = {"./dpbr status": ("examples.stdout", ""), "./dpbr run": ("examples.run.stdout", ""), "./dpbr wayon": ("examples.wayon.stdout", ""),
               "tools/expand-listing DUMP": ("expand/000/letters", "expand/000/stderr"),
