@@ -242,12 +242,13 @@ def ended(tally) -> None:
             said = tool.communicate(timeout=60)
             with open(f"{folder}/pid", encoding="utf-8") as file:
                 process = int(file.read())
-            time.sleep(.2)
-            try:
-                os.kill(process, 0)
-                runs = True
-            except ProcessLookupError:
-                runs = False
+            runs, end = True, time.monotonic() + 10
+            while runs and time.monotonic() < end:
+                try:
+                    os.kill(process, 0)
+                    time.sleep(.05)
+                except ProcessLookupError:
+                    runs = False
             left = os.listdir(f"{folder}/tmp"), os.path.getsize(f"{folder}/dump")
             right = tool.returncode == 128 + number and not runs and left == ([], 0)
             tally.add(f"make-listing, ended by {number.name}", "" if right else f"status {tool.returncode}, {said}, make runs: {runs}, left {left}")
