@@ -28,6 +28,7 @@ install: all
 	for service in services/*; do \
 		sed "s|@BINDIR@|$(BINDIR)|" $$service > $(DESTDIR)$(SHAREDIR)/$$service && chmod 644 $(DESTDIR)$(SHAREDIR)/$$service || exit 1; \
 	done
+	tools/commit > $(DESTDIR)$(SHAREDIR)/VERSION
 	for page in man/*.1; do install -m 644 $$page $(DESTDIR)$(MANDIR)/man1/ || exit 1; done
 	for page in man/*.5; do install -m 644 $$page $(DESTDIR)$(MANDIR)/man5/ || exit 1; done
 	for page in man/*.7; do install -m 644 $$page $(DESTDIR)$(MANDIR)/man7/ || exit 1; done

@@ -15,7 +15,7 @@ import tempfile
 import time
 import xml.dom.minidom
 
-from topics import driver, packages
+from topics import driver, packages, versions
 from topics.tally import EXAMPLES, TESTS, TOP, Answer, answer, contents, difference
 
 ROW, MOST_HEIGHT = 24, 1700
@@ -505,6 +505,7 @@ def run(tally):
             tally.run(f"{kind}/{name}", case, kind, name)
     shown(tally)
     tally.run("packages", packages.run)
+    versions.run(tally)
     brought(tally)
     taken_away(tally)
     tally.run("pictures", pictures)

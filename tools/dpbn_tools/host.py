@@ -14,6 +14,7 @@ from dpbn_tools.host_folder import DRIVER, NODE, BadFolder, Folder, look, names_
 from dpbn_tools.host_keeper import DRIVER_ENDS, NODE_ENDS, end_process, keep
 from dpbn_tools.hosts_status import line_of
 from dpbn_tools.log import BadLog
+from dpbn_tools.version import add_version
 from dpbn_tools.whole_files import put
 
 # how long a start is watched, in seconds
@@ -33,6 +34,7 @@ def main() -> None:
 
 def options(given: Optional[Sequence[str]] = None) -> argparse.Namespace:
     words = argparse.ArgumentParser(prog="dpbn-host", description="Runs the node and the driver of one host.", allow_abbrev=False)
+    add_version(words)
     words.add_argument("command", metavar="COMMAND", choices=sorted(COMMANDS), help=", ".join(COMMANDS))
     words.add_argument("folder", metavar="DIR", help="the folder of the run on this host")
     words.add_argument("what", metavar="WHAT", nargs="?", help="a SHA-256 for give and keep, a number for name")

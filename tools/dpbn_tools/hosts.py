@@ -11,6 +11,7 @@ from dpbn_tools.hosts_file import Host, HostsFile
 from dpbn_tools.hosts_remote import NoAnswer, ask
 from dpbn_tools.hosts_start import Answered, Refused, Starter, ask_all, on_all
 from dpbn_tools.hosts_status import is_well, line_of
+from dpbn_tools.version import add_version
 from dpbn_tools.words import number
 
 # how often the copies for a report are brought up to date, in seconds
@@ -37,6 +38,7 @@ def main() -> None:
 def options(given: Optional[Sequence[str]] = None) -> argparse.Namespace:
     words = argparse.ArgumentParser(prog="dpbn-hosts", description="Starts, shows, steers and ends a bulk build on its hosts.",
                                     allow_abbrev=False)
+    add_version(words)
     words.add_argument("file", metavar="FILE", help="names the hosts, and what they have in common")
     commands = words.add_subparsers(dest="command", metavar="COMMAND", required=True)
     helps = {"start": "makes the run's key, hands out what a host needs, and starts node and driver",

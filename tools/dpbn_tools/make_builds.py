@@ -8,6 +8,7 @@ from typing import List, TextIO
 
 from dpbn_tools.builds import fit, text_of
 from dpbn_tools.folders import Refused, packages_in
+from dpbn_tools.version import add_version
 from dpbn_tools.words import number
 
 
@@ -20,6 +21,7 @@ def write(parts: List[str], out: TextIO) -> None:
 
 def options() -> argparse.Namespace:
     words = argparse.ArgumentParser(prog="make-builds", description="Writes the file of builds that dpbn(1) reads.")
+    add_version(words)
     words.add_argument("folder", metavar="FOLDER", help="has a folder for each package, named as its path with : for each /")
     words.add_argument("--digests", metavar="BYTES", type=number(0, 10**18 - 1),
                        help="a larger file gives way to its SHA-256, as do others in a build that would be too large")

@@ -13,6 +13,7 @@ from typing import Dict, List, NoReturn
 from dpbn_tools.chains import Chains
 from dpbn_tools.listing import BadLine, Listing, Unit
 from dpbn_tools.paths import canonical, is_path
+from dpbn_tools.version import add_version
 
 # UNIT SECONDS BYTES HOST
 TIME = re.compile(rb"(\S+) ([0-9]{1,12}(?:\.[0-9]{1,9})?) [0-9]+ [0-9]+")
@@ -101,6 +102,7 @@ def ordered(listing: Listing, times: Times) -> List[bytes]:
 
 def main() -> None:
     words = argparse.ArgumentParser(prog="order-listing", description="Writes a listing with the longest chain of build times first.")
+    add_version(words)
     words.add_argument("--single", action="store_true", help="each path is built by itself, as with dpbr --single")
     words.add_argument("listing", metavar="LISTING", help="a listing, as make-listing writes it")
     words.add_argument("times", metavar="TIMES", nargs="*", help="files of times, as build-jobs writes them to work/times")

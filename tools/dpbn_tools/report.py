@@ -15,6 +15,7 @@ from dpbn_tools.progress import History, stamp
 from dpbn_tools.report_files import Folder
 from dpbn_tools.status import FINISHED, STOPPED, Reporter
 from dpbn_tools.units import Division
+from dpbn_tools.version import add_version
 from dpbn_tools.watch import Screen
 from dpbn_tools.work_folders import Work
 
@@ -92,6 +93,7 @@ def warn(text: str) -> None:
 
 def asked_for(given: Optional[Sequence[str]] = None) -> argparse.Namespace:
     word = argparse.ArgumentParser(prog="dpbn-report", description="Shows how far a bulk build is.", allow_abbrev=False)
+    add_version(word)
     word.add_argument("--listing", metavar="LISTING", required=True, help="the listing that the nodes have")
     word.add_argument("--single", action="store_true", help="each path is built by itself, as for dpbn --single")
     word.add_argument("--log", metavar="LOG", action="append", default=[], help="the log of a node; any number of times")

@@ -13,6 +13,7 @@ from typing import Dict, List, NamedTuple, Optional, Set, Tuple
 from dpbn_tools.log import HELD, WHOLE_RECORD, BadLog, LogFile, PackedFile, Record, digest_of, read_header
 from dpbn_tools.paths import folder_name
 from dpbn_tools.scratch import SIGNALS, Scratch
+from dpbn_tools.version import add_version
 
 LIST, PATHS = b"list", b"held"
 
@@ -229,6 +230,7 @@ def end_cleanly() -> None:
 def options() -> argparse.Namespace:
     words = argparse.ArgumentParser(prog="unpack-log", description="Writes out the packages that the node of a log holds.",
                                     allow_abbrev=False)
+    add_version(words)
     words.add_argument("--store", metavar="STORE", help="has the files that went as name, size and SHA-256, each named by that")
     words.add_argument("--link", action="store_true", help="such files get a second name in place of a copy, where that can be had")
     words.add_argument("--flat", action="store_true", help="all files are put into DIR itself, as in a folder of packages for pkg_add(1)")

@@ -5,6 +5,7 @@ import argparse
 import sys
 from typing import List
 
+from dpbn_tools.version import add_version
 from dpbn_tools.words import number
 
 MAX_SIZE, MAX_SECONDS = 10**18 - 1, 10**9
@@ -13,6 +14,7 @@ MAX_SIZE, MAX_SECONDS = 10**18 - 1, 10**9
 def parser() -> argparse.ArgumentParser:
     words = argparse.ArgumentParser(prog="build-jobs", description="Builds the jobs that a node posts in its work folder.",
                                     allow_abbrev=False)
+    add_version(words)
     words.add_argument("-j", metavar="N", type=number(1, 64), default=1, help="how many builds run at a time; 1")
     words.add_argument("--listing", metavar="LISTING", help="the node's listing, for the packages' names")
     files(words)
