@@ -8,6 +8,7 @@ import subprocess
 import sys
 from typing import Dict, Iterable, Iterator, List, Optional, Sequence, Set, Tuple
 
+from topics import explained
 from topics.tally import TESTS, TOP, Tally, contents
 
 sys.path.insert(0, f"{TOP}/tools")
@@ -386,3 +387,4 @@ def run(tally: Tally) -> None:
     counted(tally)
     leaning(tally)
     places(tally)
+    explained.run_documents(tally)

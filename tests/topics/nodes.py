@@ -14,6 +14,7 @@ import tempfile
 import time
 from concurrent.futures import ThreadPoolExecutor
 
+from topics.explained import explains
 from topics.programs import help_of, shown
 from topics.tally import PROGRAM, TESTS, TOP, Answer, Tally, built_shim, contents, difference, text_difference
 
@@ -129,7 +130,7 @@ def wrong_words():
     node = ["node", *SHARED, "--members", "3", "--me", "0", "--turns", "1"]
     cluster = ["cluster", *SHARED, "--members", "3", "--turns", "1"]
     here = [*node, "--base", "7000"]
-    yield from ([], ["--help"], ["-h"], ["help"], ["help", "node"], ["--version"], ["-V"], ["node", "--help"], ["cluster", "--help"])
+    yield from ([], ["--help"], ["-h"], ["help"], ["help", "node"], ["-V"], ["node", "--help"], ["cluster", "--help"])
     yield from (["node"], ["cluster"], ["nodes", *here[1:]], node, [*here, "--hosts", "1.2.3.4:5"], [*cluster, "more"], [*here, "more"])
     yield from ([b"\xff"], [*cluster, b"\xff"], [*here, "--weights", b"\xff"], ["cluster", "--listing", b"\xff", *cluster[3:]])
     yield from ([*cluster, "--single", "--single"], [*here, "--single", "--single"], [*cluster, "--single="], [*here, "--single="],
@@ -164,6 +165,7 @@ def helps(tally):
     """The help has what dpbn(1) has."""
     with tempfile.TemporaryDirectory() as folder:
         help_of(tally, "dpbn", lambda words: answer(words, folder))
+        explains(tally, "dpbn", lambda words: answer(words, folder))
 
 
 def ordered(tally, folder, command, good, bad, **more):

@@ -7,6 +7,7 @@ import tempfile
 import time
 
 from topics import started
+from topics import explained
 from topics.tally import EXAMPLES, PROGRAM, TESTS, TOP, answer, contents, difference, text_difference
 
 # The folders of stored cases of `dpbr status` and `dpbr audit`, and of those that the manual page shows.
@@ -83,6 +84,8 @@ def synopsis(page):
     part = re.search(r"^\.Sh SYNOPSIS\n(.*?)^\.Sh ", page, re.DOTALL | re.MULTILINE)[1]
     for call in re.split(r"^\.Nm\n", part, flags=re.MULTILINE)[1:]:
         lines = call.split("\n")
+        if lines[0] == ".Fl -version":
+            continue
         options = [(name, bool(value), line.startswith(".Op") or "|" in line)
                    for line in lines for name, value in re.findall(r"Fl -(\w+)( Ar \S+)?", line)]
         calls[re.match(r"\.Cm (\w+)\n", call)[1]] = ([line[4:].upper() for line in lines if line.startswith(".Ar ")],
@@ -170,7 +173,7 @@ def examples(tally):
 def no_calls(tally):
     """Wrong arguments: clap's text on standard error, and status 2."""
     status, audit, run = ["status", "listing", "held"], ["audit", "listing", "list"], ["run", "listing", "trace"]
-    for words in ([], ["--help"], ["help"], ["--version"], ["status"], ["status", "listing"], [*status, "more"], ["state", *status[1:]],
+    for words in ([], ["--help"], ["help"], ["status"], ["status", "listing"], [*status, "more"], ["state", *status[1:]],
                   [b"status", b"\xff", b"held"], ["status", "--help"], ["audit"], ["audit", "listing"], [*audit, "more"],
                   ["audit", "--help"], ["audits", *audit[1:]], ["--single", *status], ["--single", *audit], [*status, "--single=yes"],
                   ["run"], ["run", "listing"], [*run, "more"], ["run", "--help"], ["runs", *run[1:]], ["--single", *run],
@@ -294,6 +297,7 @@ def run(tally):
     examples(tally)
     readme(tally)
     helps(tally)
+    explained.explains(tally, "dpbr", lambda words: answer(words, EXAMPLES))
     no_calls(tally)
     faults(tally)
     limits(tally)

@@ -21,7 +21,7 @@ done
 """
 BUILT = {"dpbr": PROGRAM, "dpbn": f"{TOP}/crates/dpbn/out/dpbn"}
 SMALL = f"{TOP}/crates/dpbr_quick/out/dpbr_quick"
-CALLS = {"dpbr": ("status", "audit", "run", "wayon"), "dpbn": ("node", "cluster", "build", "key")}
+CALLS = {"dpbr": ("status", "audit", "run", "wayon", "explain"), "dpbn": ("node", "cluster", "build", "key", "explain")}
 # words that are no subcommands, some of them like one, two or three, one in letters of two bytes, and one with words after it
 UNKNOWN = ("state", "stat", "statu", "statusaudit", "audits", "tidua", "rum", "nur", "ran", "way", "wayo", "yawno", "hello", "hel", "x", "", "a b",
            "stätus", "nodes", "nod", "done", "clusters", "kluster", "built", "bild", "keys", "ky", "eky", "'", "\n", "WORD", "status\n")

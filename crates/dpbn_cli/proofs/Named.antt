@@ -5,31 +5,43 @@ use Rattle.std.specs.Str.{bytes_eq}
 use Rattle.clap.specs.Words.{IsAmong, Kinds, Row, Text}
 use Rattle.clap.specs.declared.error.kind.ErrorKind.{ErrorKind}
 use Rattle.dpbn_cli.specs.Calls.{call_fault}
+use Rattle.dpbr_cli.specs.shared.Numbers.{HasNumber as HasShort}
 use Rattle.dpbn_cli.specs.inside.Naming.{HasBuild, HasFiles, HasNode, HasSite, HasText, NamesCall}
 
 cluster_files : (rows : List Row) → NamesCall (Some (codes "cluster", rows)) → HasFiles rows
 cluster_files rows (inl p) = p.1
 cluster_files rows (inr (inl p)) = absurd (true≢false (ap (λ t. bytes_eq t (codes "cluster")) p.0))
 cluster_files rows (inr (inr (inl p))) = absurd (true≢false (ap (λ t. bytes_eq t (codes "cluster")) p.0))
-cluster_files rows (inr (inr (inr p))) = absurd (true≢false (ap (λ t. bytes_eq t (codes "cluster")) p.0))
+cluster_files rows (inr (inr (inr (inl p)))) = absurd (true≢false (ap (λ t. bytes_eq t (codes "cluster")) p.0))
+cluster_files rows (inr (inr (inr (inr p)))) = absurd (true≢false (ap (λ t. bytes_eq t (codes "cluster")) p.0))
 
 node_values : (rows : List Row) → NamesCall (Some (codes "node", rows)) → HasNode rows
 node_values rows (inl p) = absurd (true≢false (ap (λ t. bytes_eq t (codes "node")) p.0))
 node_values rows (inr (inl p)) = p.1
 node_values rows (inr (inr (inl p))) = absurd (true≢false (ap (λ t. bytes_eq t (codes "node")) p.0))
-node_values rows (inr (inr (inr p))) = absurd (true≢false (ap (λ t. bytes_eq t (codes "node")) p.0))
+node_values rows (inr (inr (inr (inl p)))) = absurd (true≢false (ap (λ t. bytes_eq t (codes "node")) p.0))
+node_values rows (inr (inr (inr (inr p)))) = absurd (true≢false (ap (λ t. bytes_eq t (codes "node")) p.0))
 
 build_values : (rows : List Row) → NamesCall (Some (codes "build", rows)) → HasBuild rows
 build_values rows (inl p) = absurd (true≢false (ap (λ t. bytes_eq t (codes "build")) p.0))
 build_values rows (inr (inl p)) = absurd (true≢false (ap (λ t. bytes_eq t (codes "build")) p.0))
 build_values rows (inr (inr (inl p))) = p.1
-build_values rows (inr (inr (inr p))) = absurd (true≢false (ap (λ t. bytes_eq t (codes "build")) p.0))
+build_values rows (inr (inr (inr (inl p)))) = absurd (true≢false (ap (λ t. bytes_eq t (codes "build")) p.0))
+build_values rows (inr (inr (inr (inr p)))) = absurd (true≢false (ap (λ t. bytes_eq t (codes "build")) p.0))
 
 key_file : (rows : List Row) → NamesCall (Some (codes "key", rows)) → HasText rows (codes "FILE")
 key_file rows (inl p) = absurd (true≢false (ap (λ t. bytes_eq t (codes "key")) p.0))
 key_file rows (inr (inl p)) = absurd (true≢false (ap (λ t. bytes_eq t (codes "key")) p.0))
 key_file rows (inr (inr (inl p))) = absurd (true≢false (ap (λ t. bytes_eq t (codes "key")) p.0))
-key_file rows (inr (inr (inr p))) = p.1
+key_file rows (inr (inr (inr (inl p)))) = p.1
+key_file rows (inr (inr (inr (inr p)))) = absurd (true≢false (ap (λ t. bytes_eq t (codes "key")) p.0))
+
+explain_values : (rows : List Row) → NamesCall (Some (codes "explain", rows)) → HasShort rows (codes "NUMBER") 65535
+explain_values rows (inl p) = absurd (true≢false (ap (λ t. bytes_eq t (codes "explain")) p.0))
+explain_values rows (inr (inl p)) = absurd (true≢false (ap (λ t. bytes_eq t (codes "explain")) p.0))
+explain_values rows (inr (inr (inl p))) = absurd (true≢false (ap (λ t. bytes_eq t (codes "explain")) p.0))
+explain_values rows (inr (inr (inr (inl p)))) = absurd (true≢false (ap (λ t. bytes_eq t (codes "explain")) p.0))
+explain_values rows (inr (inr (inr (inr p)))) = p.1
 
 -- if no site is found, the values of no build are matched
 module _ {T : Type 0} (rows : List Row) (kinds : Kinds) (e : ErrorKind) where
@@ -72,8 +84,14 @@ module _ {T : Type 0} (r : Result T ErrorKind) (matched : Option (Text × List R
       → IfErr r (λ kind. NamesCall matched → IsAmong kind (call_fault matched))
   node_kind is among = made_or_refused (codes "node") (HasNode rows) is (node_values rows) r among
 
-  -- and that of `build`
+  -- that of `build`
   pub build_kind : matched ≡ Some (codes "build", rows)
       → IfErr r (λ kind. HasBuild rows → IsAmong kind (call_fault (Some (codes "build", rows))))
       → IfErr r (λ kind. NamesCall matched → IsAmong kind (call_fault matched))
   build_kind is among = made_or_refused (codes "build") (HasBuild rows) is (build_values rows) r among
+
+  -- and that of `explain`
+  pub explain_kind : matched ≡ Some (codes "explain", rows)
+      → IfErr r (λ kind. HasShort rows (codes "NUMBER") 65535 → IsAmong kind (call_fault (Some (codes "explain", rows))))
+      → IfErr r (λ kind. NamesCall matched → IsAmong kind (call_fault matched))
+  explain_kind is among = made_or_refused (codes "explain") (HasShort rows (codes "NUMBER") 65535) is (explain_values rows) r among

@@ -8,7 +8,7 @@ use Rattle.clap.specs.Faults.{level_fault}
 use Rattle.clap.specs.Simple.{Shape, argument_words, built, filled, filled_from, label_of, rows_at}
 use Rattle.clap.specs.Takes.{is_given}
 use Rattle.clap.specs.Walk.{Row, Rule, Text, answers_to, arg_by_id, nothing_held, rows_after}
-use Rattle.clap.specs.Words.{fault_of}
+use Rattle.clap.specs.Words.{fault_of, subcommand_of}
 use Rattle.clap.specs.declared.builder.value_parser.ValueParser.TheVariants.{Signed}
 use Rattle.clap.specs.declared.error.kind.ErrorKind.{ErrorKind}
 use Rattle.clap.proofs.ValueTestLemmas.{accepts-Accepts}
@@ -16,7 +16,7 @@ use Rattle.dpbr_cli.specs.Calls.{single}
 use Rattle.dpbr_cli.proofs.Entering.{Enters, enters_one, none_lacks}
 use Rattle.dpbr_cli.proofs.Rows.{AllFit, AreKnown}
 use Rattle.dpbr_cli.proofs.Uses.{given_matched, known, none_or_matched, rows_fit}
-use Rattle.dpbn_cli.specs.Calls.{cluster_command, dpbn_app, matched, needed, number, option, shared, site}
+use Rattle.dpbn_cli.specs.Calls.{cluster_command, dpbn_app, needed, number, option, shared, site}
 use Rattle.dpbn_cli.specs.inside.Naming.{HasFiles, HasNumber, HasOneNode, HasSite, HasText, MayHaveNumber, NamesCall}
 
 -- ---- values that were matched
@@ -102,7 +102,7 @@ site_there more rows fit none =
       members.1,
     )
 
--- ---- the subcommands as clap builds them: the program's four, and its own
+-- ---- the subcommands as clap builds them: the program's five, and its own
 
 abbrev subcommand_at : ℕ → Shape
 subcommand_at k = slice_index_or (built dpbn_app).subs k cluster_command
@@ -163,30 +163,42 @@ key_values rest none =
     let fit : AllFit c rows = rows_fit (subcommand_at 3) rest (known c refl) none in
     let file = is_there (is_given (codes "FILE") rows) _ (none_lacks (subcommand_at 3) rest refl none) in
     let there = given_matched c (slice_index_or c 0 single) refl rows fit file.0 in
-    inr (inr (inr (refl, (there.text, there.first))))
+    inr (inr (inr (inl (refl, (there.text, there.first)))))
+
+explain_values : HasValues 4
+unfolding dpbn_app
+explain_values rest none =
+    let c : List Rule = (subcommand_at 4).rules in
+    let rows : List Row = rows_at_sub 4 rest in
+    let fit : AllFit c rows = rows_fit (subcommand_at 4) rest (known c refl) none in
+    let number = is_there (is_given (codes "NUMBER") rows) _ (none_lacks (subcommand_at 4) rest refl none) in
+    let there = given_matched c (slice_index_or c 0 single) refl rows fit number.0 in
+    inr (inr (inr (inr (refl, (there.text, accepts-Accepts false (Signed (pos 0) (pos 65535)) there.text (passed _ _ there.passes), there.one)))))
 
 -- ---- which subcommand is entered
 
--- which of five is found: the last one passes the test
-abbrev IsOneOf : {X : Type 0} → (X → Bool) → X → X → X → X → X → X → Type 0
-IsOneOf p a b c d f x = (a ≡ x) ⊎ ((b ≡ x) ⊎ ((c ≡ x) ⊎ ((d ≡ x) ⊎ ((f ≡ x) × (p f ≡ true)))))
+-- which of six is found: the last one passes the test
+abbrev IsOneOf : {X : Type 0} → (X → Bool) → X → X → X → X → X → X → X → Type 0
+IsOneOf p a b c d e g x = (a ≡ x) ⊎ ((b ≡ x) ⊎ ((c ≡ x) ⊎ ((d ≡ x) ⊎ ((e ≡ x) ⊎ ((g ≡ x) × (p g ≡ true))))))
 
-found_among : {X : Type 0} (p : X → Bool) (a b c d f x : X) → find p (a ∷ b ∷ c ∷ d ∷ f ∷ []) ≡ Some x → IsOneOf p a b c d f x
-found_among {X} p a b c d f x = by (p a) (p b) (p c) (p d) (p f) refl
+found_among : {X : Type 0} (p : X → Bool) (a b c d e g x : X) → find p (a ∷ b ∷ c ∷ d ∷ e ∷ g ∷ []) ≡ Some x → IsOneOf p a b c d e g x
+found_among {X} p a b c d e g x = by (p a) (p b) (p c) (p d) (p e) (p g) refl
   where
     same : (u v : X) → Some u ≡ Some v → u ≡ v
-    same u v e = cc
+    same u v f = cc
 
-    by : (i j k l m : Bool) → p f ≡ m → cond i (Some a) (cond j (Some b) (cond k (Some c) (cond l (Some d) (cond m (Some f) None)))) ≡ Some x
-        → IsOneOf p a b c d f x
-    by true j k l m at e = inl (same a x e)
-    by false true k l m at e = inr (inl (same b x e))
-    by false false true l m at e = inr (inr (inl (same c x e)))
-    by false false false true m at e = inr (inr (inr (inl (same d x e))))
-    by false false false false true at e = inr (inr (inr (inr (same f x e, at))))
-    by false false false false false at e = absurd (let no : None ≡ Some x = e in cc)
+    by : (i j k l m n : Bool) → p g ≡ n
+        → cond i (Some a) (cond j (Some b) (cond k (Some c) (cond l (Some d) (cond m (Some e) (cond n (Some g) None))))) ≡ Some x
+        → IsOneOf p a b c d e g x
+    by true j k l m n at f = inl (same a x f)
+    by false true k l m n at f = inr (inl (same b x f))
+    by false false true l m n at f = inr (inr (inl (same c x f)))
+    by false false false true m n at f = inr (inr (inr (inl (same d x f))))
+    by false false false false true n at f = inr (inr (inr (inr (inl (same e x f)))))
+    by false false false false false true at f = inr (inr (inr (inr (inr (same g x f, at)))))
+    by false false false false false false at f = absurd (let no : None ≡ Some x = f in cc)
 
-help_is_met : (name : Text) → answers_to name (label_of (subcommand_at 4)) ≡ true → name ≡ codes "help"
+help_is_met : (name : Text) → answers_to name (label_of (subcommand_at 5)) ≡ true → name ≡ codes "help"
 unfolding dpbn_app
 help_is_met name met = sym ((bytes_eq-Decides (codes "help") name).0 (by (bytes_eq (codes "help") name) met))
   where
@@ -204,16 +216,17 @@ entered k values words e is =
 shape_values : (words : List Text) (e : Enters (built dpbn_app) words) → NamedBy e.shape e.rest
 unfolding dpbn_app
 shape_values words e =
-    elim (found_among (λ s. answers_to e.name (label_of s)) (subcommand_at 0) (subcommand_at 1) (subcommand_at 2) (subcommand_at 3) (subcommand_at 4) e.shape e.found) [
+    elim (found_among (λ s. answers_to e.name (label_of s)) (subcommand_at 0) (subcommand_at 1) (subcommand_at 2) (subcommand_at 3) (subcommand_at 4) (subcommand_at 5) e.shape e.found) [
       | inl is ↦ entered 0 cluster_values words e is
       | inr (inl is) ↦ entered 1 node_values words e is
       | inr (inr (inl is)) ↦ entered 2 build_values words e is
       | inr (inr (inr (inl is))) ↦ entered 3 key_values words e is
-      | inr (inr (inr (inr own))) ↦ absurd (never_help e.name (help_is_met e.name own.1) e.no_help)
+      | inr (inr (inr (inr (inl is)))) ↦ entered 4 explain_values words e is
+      | inr (inr (inr (inr (inr own)))) ↦ absurd (never_help e.name (help_is_met e.name own.1) e.no_help)
     ]
 
-pub taken_names_call : (words : List Text) → fault_of dpbn_app words ≡ [] → NamesCall (matched words)
-unfolding matched dpbn_app
+pub taken_names_call : (words : List Text) → fault_of dpbn_app words ≡ [] → NamesCall (subcommand_of dpbn_app words)
+unfolding dpbn_app
 taken_names_call words none =
     let e = enters_one (built dpbn_app) (argument_words dpbn_app words) refl none in
     subst NamesCall (sym e.enters) (shape_values (argument_words dpbn_app words) e)

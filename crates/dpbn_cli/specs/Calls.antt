@@ -7,13 +7,14 @@ use Rattle.clap.specs.Words.{App, Kinds, Row, Rule, Shape, Text, fault_of, first
 use Rattle.clap.specs.declared.builder.value_parser.ValueParser.TheVariants.{Signed}
 use Rattle.clap.specs.declared.error.kind.ErrorKind.TheVariants.{ArgumentConflict, MissingRequiredArgument}
 use Rattle.dpbn_cli.specs.declared.Call.{Call}
-use Rattle.dpbn_cli.specs.declared.Call.TheVariants.{Build, Cluster, Key, Node}
+use Rattle.dpbn_cli.specs.declared.Call.TheVariants.{Build, Cluster, Explain, Key, Node, Release}
 use Rattle.dpbn_cli.specs.declared.Files.{Files}
 use Rattle.dpbn_cli.specs.declared.Peers.{Peers}
 use Rattle.dpbn_cli.specs.declared.Peers.TheVariants.{Base, Hosts}
 use Rattle.dpbn_cli.specs.declared.Run.{Run}
 use Rattle.dpbn_cli.specs.declared.Site.{Site}
-use Rattle.dpbr_cli.specs.Calls.{IsFlag, IsNumber, command, flag, single, word}
+use Rattle.dpbr_cli.specs.Calls.{IsFlag, IsNumber, command, explain_command, flag, number_fault, single, word}
+use Rattle.dpbr_cli.specs.Explaining.{asks_release}
 
 -- ---- what clap is given
 
@@ -100,13 +101,20 @@ counted_app = with_subcommand cluster_app node_command
 abbrev pub nodes_app : App
 nodes_app = with_subcommand counted_app build_command
 
+-- the program without its subcommand on faults
+abbrev pub keyed_app : App
+keyed_app = with_subcommand nodes_app key_command
+
 -- the program
 unfoldable pub dpbn_app : App
-dpbn_app = with_subcommand nodes_app key_command
+dpbn_app = with_subcommand keyed_app explain_command
 
--- the subcommand that clap matches in the words, and its matches for that subcommand's arguments
+-- The subcommand that clap matches in the words, and its matches for that subcommand's arguments.
+-- `--version` counts as a subcommand without arguments if it is the only word after the program's
+-- name.
 unfoldable pub matched : List Text → Option (Text × List Row)
-matched words = subcommand_of dpbn_app words
+matched words =
+    if asks_release words then Some (codes "--version", []) else subcommand_of dpbn_app words
 
 -- ---- refused words
 
@@ -144,12 +152,16 @@ abbrev pub call_fault : Option (Text × List Row) → Kinds
 call_fault None = []
 call_fault (Some (name, rows)) =
     if bytes_eq name (codes "node") || bytes_eq name (codes "build") then one_node_fault rows
-    else []
+    else (if bytes_eq name (codes "explain") then number_fault rows else [])
 
 -- the kinds of the faults that clap finds in the words, one of which it reports, or else the fault
 -- of the call
+abbrev pub parse_faults : List Text → Kinds
+parse_faults words = or_else (fault_of dpbn_app words) (call_fault (subcommand_of dpbn_app words))
+
+-- the kinds of the faults in the words; there is none if they ask for the release
 unfoldable pub faults_of : List Text → Kinds
-faults_of words = or_else (fault_of dpbn_app words) (call_fault (matched words))
+faults_of words = if asks_release words then [] else parse_faults words
 
 -- the words are accepted: there is no fault in them
 abbrev pub AreTaken : List Text → Type 0
@@ -226,3 +238,6 @@ IsCallOf (Some (name, rows)) (Build site me peers patience run) = (name ≡ code
     × IsSite rows site × IsOneNode rows me peers patience run
 IsCallOf (Some (name, rows)) (Key file) =
     (name ≡ codes "key") × IsText rows (codes "FILE") file.now
+IsCallOf (Some (name, rows)) (Explain number) =
+    (name ≡ codes "explain") × IsNumber rows (codes "NUMBER") number
+IsCallOf (Some (name, rows)) Release = name ≡ codes "--version"

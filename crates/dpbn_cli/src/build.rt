@@ -28,8 +28,8 @@ fn with_site<'a>(alloc: Global) -> Result<Command<'a>, AllocError>
     ensures app { IfOk result (λ command. app_of command ≡ site_app) }
     ensures local { IfOk result (λ command. (fields_of command).has_globals ≡ false) }
 {
-    let about = "Runs the node of one member, and has built what it claims.";
-    let help = "where jobs go out and builds come in";
+    let about = "Runs the node of one member, and has its claims built here.";
+    let help = "the folder for jobs and their results";
     let work = needed(alloc, "work", "FOLDER", help);
     let command = with_paths(alloc, Command::new(alloc, "build").about(about), work)?;
     with_times(alloc, with_counts(alloc, command)?)?.arg(single(alloc))
@@ -51,9 +51,9 @@ fn with_times<'a>(alloc: Global, command: Command<'a>) -> Result<Command<'a>, Al
     ensures app { IfOk result (λ more. app_of more ≡ with_rules (app_of command.entry) site_times) }
     ensures local { IfOk result (λ more. (fields_of more).has_globals ≡ false) }
 {
-    let left = "how long another member's unit is left to it, 1 to 1000000 [default: 600]";
-    let idle = "end once there was nothing to do for so long, 1 to 1000000 [default: never]";
-    let told = "tell the line after each S seconds, too [default: at the end alone]";
+    let left = "seconds until a unit of another member is taken over, 1 to 1000000 [default: 600]";
+    let idle = "seconds without work after which the node ends, 1 to 1000000 [default: never]";
+    let told = "print the line every S seconds, too [default: only at the end]";
     let takeover = seconds(alloc, "takeover", left);
     let rest = seconds(alloc, "rest", idle);
     let progress = seconds(alloc, "progress", told);

@@ -17,7 +17,7 @@ pub fn command<'a>(alloc: Global) -> Result<Command<'a>, AllocError>
     ensures local { IfOk result (λ command. (fields_of command).has_globals ≡ false) }
 {
     let about = "Makes a file with a new key, for the nodes of one run.";
-    let file = word(alloc, "FILE", "the key's file, which must not be there");
+    let file = word(alloc, "FILE", "the file of the key, which must not exist");
     Command::new(alloc, "key").about(about).arg(file)
 }
 

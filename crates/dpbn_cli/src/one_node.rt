@@ -33,7 +33,7 @@ pub fn with_node<'a>(alloc: Global, command: Command<'a>) -> Result<Command<'a>,
         alloc,
         "hosts",
         "A0:P0,A1:P1,..",
-        "where each member listens, where --base is not given",
+        "where each member listens, if --base is not given",
     );
     let command = with_options(command, me(alloc), base(alloc), hosts)?.arg(patience(alloc))?;
     with_run(alloc, command)
@@ -51,8 +51,8 @@ fn with_run<'a>(alloc: Global, command: Command<'a>) -> Result<Command<'a>, Allo
         "FILE",
         "the file of the run's key, as `dpbn key` makes it",
     );
-    let unsealed = flag(alloc, "unsealed", "there is no key: what comes is believed");
-    let continued = flag(alloc, "continue", "refuse to start where no log stands");
+    let unsealed = flag(alloc, "unsealed", "there is no key: all datagrams are trusted");
+    let continued = flag(alloc, "continue", "refuse to start if there is no log");
     with_options(command, key, unsealed, continued)
 }
 
@@ -81,7 +81,7 @@ fn patience<'a>(alloc: Global) -> Arg<'a>
     ensures local { result.global ≡ false }
 {
     let range = value_parser!(u16).range(0..=60_000);
-    let help = "how long a turn may wait, 0 to 60000 [default: 20]";
+    let help = "milliseconds that a turn may wait, 0 to 60000 [default: 20]";
     option(alloc, "patience", "MS", help).value_parser(range)
 }
 

@@ -85,7 +85,7 @@ fn progress<'a>(alloc: Global) -> Arg<'a>
     ensures local { result.global ≡ false }
 {
     let range = value_parser!(u32).range(1..=1_000_000);
-    let help = "tell lines after each N turns, too [default: at the end alone]";
+    let help = "print the lines every N turns, too [default: only at the end]";
     option(alloc, "progress", "N", help).value_parser(range)
 }
 

@@ -5,7 +5,7 @@ use Rattle.clap.specs.Matches.{ReadsOne}
 use Rattle.clap.specs.Words.{Row, Text, one_of}
 use Rattle.clap.proofs.CallerReads.{signed_reads}
 use Rattle.dpbr_cli.specs.Calls.{IsNumber}
-use Rattle.dpbr_cli.specs.inside.Naming.{HasNumber}
+use Rattle.dpbr_cli.specs.shared.Numbers.{HasNumber}
 
 module _ {E : Type 0} (G : List ℕ → Result ℕ E → Type 0) (k : ℕ)
     (only : (u : List ℕ) (x : Result ℕ E) → G u x → ParsesUnsigned k 10 u x)

@@ -17,33 +17,37 @@ use Rattle.clap.proofs.ValueTestLemmas.{accepts-Accepts}
 use Rattle.dpbr_cli.proofs.Entering.{Enters, enters_one, none_lacks}
 use Rattle.dpbr_cli.proofs.Rows.{AllFit}
 use Rattle.dpbr_cli.proofs.Uses.{given_matched, known, rows_fit}
-use Rattle.dpbr_cli.specs.Calls.{AreTaken, IsWord, dpbr_app, faults_of, matched, status_command, word}
-use Rattle.dpbr_cli.specs.inside.Naming.{HasNumber, NamesCall}
+use Rattle.clap.specs.Words.{fault_of, subcommand_of}
+use Rattle.dpbr_cli.specs.Calls.{IsWord, dpbr_app, status_command, word}
+use Rattle.dpbr_cli.specs.inside.Naming.{NamesCall}
+use Rattle.dpbr_cli.specs.shared.Numbers.{HasNumber}
 
--- which of five is found: the last one passes the test
-abbrev IsOneOf : {X : Type 0} → (X → Bool) → X → X → X → X → X → X → Type 0
-IsOneOf p a b c d e x = (a ≡ x) ⊎ ((b ≡ x) ⊎ ((c ≡ x) ⊎ ((d ≡ x) ⊎ ((e ≡ x) × (p e ≡ true)))))
+-- which of six is found: the last one passes the test
+abbrev IsOneOf : {X : Type 0} → (X → Bool) → X → X → X → X → X → X → X → Type 0
+IsOneOf p a b c d e g x = (a ≡ x) ⊎ ((b ≡ x) ⊎ ((c ≡ x) ⊎ ((d ≡ x) ⊎ ((e ≡ x) ⊎ ((g ≡ x) × (p g ≡ true))))))
 
-found_among : {X : Type 0} (p : X → Bool) (a b c d e x : X) → find p (a ∷ b ∷ c ∷ d ∷ e ∷ []) ≡ Some x → IsOneOf p a b c d e x
-found_among {X} p a b c d e x = by (p a) (p b) (p c) (p d) (p e) refl
+found_among : {X : Type 0} (p : X → Bool) (a b c d e g x : X) → find p (a ∷ b ∷ c ∷ d ∷ e ∷ g ∷ []) ≡ Some x → IsOneOf p a b c d e g x
+found_among {X} p a b c d e g x = by (p a) (p b) (p c) (p d) (p e) (p g) refl
   where
     same : (u v : X) → Some u ≡ Some v → u ≡ v
     same u v f = cc
 
-    by : (i j k l m : Bool) → p e ≡ m → cond i (Some a) (cond j (Some b) (cond k (Some c) (cond l (Some d) (cond m (Some e) None)))) ≡ Some x
-        → IsOneOf p a b c d e x
-    by true j k l m at f = inl (same a x f)
-    by false true k l m at f = inr (inl (same b x f))
-    by false false true l m at f = inr (inr (inl (same c x f)))
-    by false false false true m at f = inr (inr (inr (inl (same d x f))))
-    by false false false false true at f = inr (inr (inr (inr (same e x f, at))))
-    by false false false false false at f = absurd (let no : None ≡ Some x = f in cc)
+    by : (i j k l m n : Bool) → p g ≡ n
+        → cond i (Some a) (cond j (Some b) (cond k (Some c) (cond l (Some d) (cond m (Some e) (cond n (Some g) None))))) ≡ Some x
+        → IsOneOf p a b c d e g x
+    by true j k l m n at f = inl (same a x f)
+    by false true k l m n at f = inr (inl (same b x f))
+    by false false true l m n at f = inr (inr (inl (same c x f)))
+    by false false false true m n at f = inr (inr (inr (inl (same d x f))))
+    by false false false false true n at f = inr (inr (inr (inr (inl (same e x f)))))
+    by false false false false false true at f = inr (inr (inr (inr (inr (same g x f, at)))))
+    by false false false false false false at f = absurd (let no : None ≡ Some x = f in cc)
 
--- the subcommands as clap builds them: the program's four, and its own
+-- the subcommands as clap builds them: the program's five, and its own
 abbrev subcommand_at : ℕ → Shape
 subcommand_at k = slice_index_or (built dpbr_app).subs k status_command
 
-help_is_met : (name : Text) → answers_to name (label_of (subcommand_at 4)) ≡ true → name ≡ codes "help"
+help_is_met : (name : Text) → answers_to name (label_of (subcommand_at 5)) ≡ true → name ≡ codes "help"
 unfolding dpbr_app
 help_is_met name met = sym ((bytes_eq-Decides (codes "help") name).0 (by (bytes_eq (codes "help") name) met))
   where
@@ -131,7 +135,7 @@ wayon_values rest none =
     let path = is_there (is_given (codes "PATH") rows) _ node.1 in
     let host = is_there (is_given (codes "HOST") rows) _ path.1 in
     let builds = is_there (is_given (codes "BUILDS") rows) _ host.1 in
-    inr (inr (inr (
+    inr (inr (inr (inl (
       refl,
       record {
         files = (word_there c rows fit (rule_at 3 0) refl listing.0, word_there c rows fit (rule_at 3 1) refl trace.0);
@@ -139,30 +143,43 @@ wayon_values rest none =
         rest = (word_there c rows fit (rule_at 3 3) refl path.0, word_there c rows fit (rule_at 3 5) refl builds.0);
         host = number_there c rows fit (rule_at 3 4) refl 65535 refl host.0;
       },
-    )))
+    ))))
+
+explain_values : (rest : List Text) → level_fault (subcommand_at 4) [] nothing_held rest false [] ≡ []
+    → NamesCall (Some (rows_at (subcommand_at 4) rest))
+unfolding dpbr_app
+explain_values rest none =
+    let c : List Rule = (subcommand_at 4).rules in
+    let rows : List Row = rows_at_sub 4 rest in
+    let fit : AllFit c rows = rows_fit (subcommand_at 4) rest (known c refl) none in
+    let number = is_there (is_given (codes "NUMBER") rows) _ (none_lacks (subcommand_at 4) rest refl none) in
+    inr (inr (inr (inr (refl, number_there c rows fit (rule_at 4 0) refl 65535 refl number.0))))
 
 abbrev NamedBy : Shape → List Text → Type 0
 NamedBy shape rest = NamesCall (Some (rows_at shape rest))
 
+-- words of the subcommand without a fault have all values of its call
+abbrev HasValues : ℕ → Type 0
+HasValues k = (rest : List Text) → level_fault (subcommand_at k) [] nothing_held rest false [] ≡ [] → NamedBy (subcommand_at k) rest
+
+entered : (k : ℕ) → HasValues k → (words : List Text) (e : Enters (built dpbr_app) words) → subcommand_at k ≡ e.shape → NamedBy e.shape e.rest
+entered k values words e is =
+    subst (λ s. NamedBy s e.rest) is (values e.rest (subst (λ s. level_fault s [] nothing_held e.rest false [] ≡ []) (sym is) e.faultless))
+
 shape_values : (words : List Text) (e : Enters (built dpbr_app) words) → NamedBy e.shape e.rest
 unfolding dpbr_app
 shape_values words e =
-    elim (found_among (λ s. answers_to e.name (label_of s)) (subcommand_at 0) (subcommand_at 1) (subcommand_at 2) (subcommand_at 3) (subcommand_at 4) e.shape e.found) [
-      | inl is ↦ subst (λ s. NamedBy s e.rest) is (status_values e.rest (subst (λ s. level_fault s [] nothing_held e.rest false [] ≡ []) (sym is) e.faultless))
-      | inr rest ↦ elim rest [
-        | inl is ↦ subst (λ s. NamedBy s e.rest) is (audit_values e.rest (subst (λ s. level_fault s [] nothing_held e.rest false [] ≡ []) (sym is) e.faultless))
-        | inr others ↦ elim others [
-          | inl is ↦ subst (λ s. NamedBy s e.rest) is (run_values e.rest (subst (λ s. level_fault s [] nothing_held e.rest false [] ≡ []) (sym is) e.faultless))
-          | inr more ↦ elim more [
-            | inl is ↦ subst (λ s. NamedBy s e.rest) is (wayon_values e.rest (subst (λ s. level_fault s [] nothing_held e.rest false [] ≡ []) (sym is) e.faultless))
-            | inr own ↦ absurd (never_help e.name (help_is_met e.name own.1) e.no_help)
-          ]
-        ]
-      ]
+    elim (found_among (λ s. answers_to e.name (label_of s)) (subcommand_at 0) (subcommand_at 1) (subcommand_at 2) (subcommand_at 3) (subcommand_at 4) (subcommand_at 5) e.shape e.found) [
+      | inl is ↦ entered 0 status_values words e is
+      | inr (inl is) ↦ entered 1 audit_values words e is
+      | inr (inr (inl is)) ↦ entered 2 run_values words e is
+      | inr (inr (inr (inl is))) ↦ entered 3 wayon_values words e is
+      | inr (inr (inr (inr (inl is)))) ↦ entered 4 explain_values words e is
+      | inr (inr (inr (inr (inr own)))) ↦ absurd (never_help e.name (help_is_met e.name own.1) e.no_help)
     ]
 
-pub taken_names_call : (words : List Text) → AreTaken words → NamesCall (matched words)
-unfolding faults_of matched dpbr_app
-taken_names_call words taken =
-    let e = enters_one (built dpbr_app) (argument_words dpbr_app words) refl taken in
+pub taken_names_call : (words : List Text) → fault_of dpbr_app words ≡ [] → NamesCall (subcommand_of dpbr_app words)
+unfolding dpbr_app
+taken_names_call words none =
+    let e = enters_one (built dpbr_app) (argument_words dpbr_app words) refl none in
     subst NamesCall (sym e.enters) (shape_values (argument_words dpbr_app words) e)

@@ -1,11 +1,16 @@
 -- The calls of `dpbr`, as clap matches their words.
-use Rattle.std.specs.Prelude.{◌≡◌, ◌↔◌, codes, fold, ℕ, pos, List, [], ◌∷◌, Bool, Option, None, Some, true}
+use Rattle.std.specs.Prelude.{◌≡◌, ◌↔◌, codes, fold, if◌then◌else◌, ℕ, pos, List, [], ◌∷◌, Bool, Option, None, Some, true}
+use Rattle.std.specs.Option.{option_map_or}
+use Rattle.std.specs.Str.{bytes_eq}
 use Rattle.std.specs.Str.Parse.{digits_value, without_leading_plus}
+use Rattle.clap.specs.Kinds.{or_else}
 use Rattle.clap.specs.Words.{App, Kinds, Row, Rule, Shape, Text, fault_of, first_of, new_app, new_rule, one_of, subcommand_of, with_rule, with_subcommand}
 use Rattle.clap.specs.declared.builder.action.ArgAction.TheVariants.{SetTrue}
 use Rattle.clap.specs.declared.builder.value_parser.ValueParser.TheVariants.{Signed}
+use Rattle.clap.specs.declared.error.kind.ErrorKind.TheVariants.{ValueValidation}
+use Rattle.dpbr_cli.specs.Explaining.{asks_release, is_fault}
 use Rattle.dpbr_cli.specs.declared.Call.{Call}
-use Rattle.dpbr_cli.specs.declared.Call.TheVariants.{Audit, Run, Status, Wayon}
+use Rattle.dpbr_cli.specs.declared.Call.TheVariants.{Audit, Explain, Release, Run, Status, Wayon}
 
 -- ---- what clap is given
 
@@ -48,6 +53,10 @@ wayon_command = command (codes "wayon")
     (word (codes "LISTING") ∷ word (codes "TRACE") ∷ number (codes "NODE") 255
     ∷ word (codes "PATH") ∷ number (codes "HOST") 65535 ∷ word (codes "BUILDS") ∷ single ∷ [])
 
+-- `dpbr explain`, which takes the number of a fault
+abbrev pub explain_command : Shape
+explain_command = command (codes "explain") (number (codes "NUMBER") 65535 ∷ [])
+
 -- the program with only its subcommand on letters; a subcommand is required
 abbrev pub letters_app : App
 letters_app =
@@ -63,21 +72,50 @@ list_app = with_subcommand letters_app audit_command
 abbrev pub run_app : App
 run_app = with_subcommand list_app run_command
 
+-- the program with only its subcommands that read files
+abbrev pub way_app : App
+way_app = with_subcommand run_app wayon_command
+
 -- the program
 unfoldable pub dpbr_app : App
-dpbr_app = with_subcommand run_app wayon_command
+dpbr_app = with_subcommand way_app explain_command
 
--- the kinds of the faults that clap finds in the words; it reports one of them
+-- The subcommand that clap matches in the words, and its matches for that subcommand's arguments.
+-- `--version` counts as a subcommand without arguments if it is the only word after the program's
+-- name.
+unfoldable pub matched : List Text → Option (Text × List Row)
+matched words =
+    if asks_release words then Some (codes "--version", []) else subcommand_of dpbr_app words
+
+-- ---- refused words
+
+-- the number that was matched for the argument of `explain`
+abbrev pub number_at : List Row → ℕ
+number_at rows =
+    option_map_or (λ t. digits_value 10 (without_leading_plus t)) (one_of (codes "NUMBER") rows) 0
+
+-- the fault of `explain`: the number is not that of a fault
+abbrev pub number_fault : List Row → Kinds
+number_fault rows = if is_fault (number_at rows) then [] else ValueValidation ∷ []
+
+-- the fault of a call
+abbrev pub call_fault : Option (Text × List Row) → Kinds
+call_fault None = []
+call_fault (Some (name, rows)) =
+    if bytes_eq name (codes "explain") then number_fault rows else []
+
+-- the kinds of the faults that clap finds in the words, one of which it reports, or else the fault
+-- of the call
+abbrev pub parse_faults : List Text → Kinds
+parse_faults words = or_else (fault_of dpbr_app words) (call_fault (subcommand_of dpbr_app words))
+
+-- the kinds of the faults in the words; there is none if they ask for the release
 unfoldable pub faults_of : List Text → Kinds
-faults_of words = fault_of dpbr_app words
+faults_of words = if asks_release words then [] else parse_faults words
 
--- clap accepts the words: it finds no fault in them
+-- the words are accepted: there is no fault in them
 abbrev pub AreTaken : List Text → Type 0
 AreTaken words = faults_of words ≡ []
-
--- the subcommand that clap matches in the words, and its matches for that subcommand's arguments
-unfoldable pub matched : List Text → Option (Text × List Row)
-matched words = subcommand_of dpbr_app words
 
 -- ---- calls
 
@@ -113,3 +151,6 @@ IsCallOf (Some (name, rows)) (Wayon listing trace node path host builds is_singl
     × AreValues rows (codes "LISTING", codes "TRACE") listing.now trace.now is_single
     × IsNumber rows (codes "NODE") node × IsWord rows (codes "PATH") path.now
     × IsNumber rows (codes "HOST") host × IsWord rows (codes "BUILDS") builds.now
+IsCallOf (Some (name, rows)) (Explain number) =
+    (name ≡ codes "explain") × IsNumber rows (codes "NUMBER") number
+IsCallOf (Some (name, rows)) Release = name ≡ codes "--version"

@@ -2,10 +2,11 @@
 ghost use Rattle.std.specs.Prelude.{◌≡◌, ◌∷◌, [], IfNone, IfOk, IfSome, codes, false, option_map};
 ghost use Rattle.clap.specs.Words.{app_of, first_of, found_of, rows_of, rule_of, shape_of, with_rule};
 ghost use Rattle.clap.specs.declared.builder.command.Command.TheViews.{out-Command as fields_of};
-ghost use Rattle.dpbr_cli.specs.Calls.{IsFlag, IsWord, command as command_shape, single as single_rule, word};
+ghost use Rattle.dpbr_cli.specs.Calls.{IsFlag, IsNumber, IsWord, command as command_shape, number as number_rule, single as single_rule, word};
 ghost use Rattle.dpbr_cli.specs.inside.Naming.{HasBoth};
+ghost use Rattle.dpbr_cli.specs.shared.Numbers.{HasNumber};
 
-use clap::{Arg, ArgAction, ArgMatches, Command};
+use clap::{Arg, ArgAction, ArgMatches, Command, value_parser};
 use std::alloc::{AllocError, Global};
 
 /// clap's command for a subcommand with two required words and the flag.
@@ -47,6 +48,22 @@ pub fn required<'a>(alloc: Global, id: &'a str, help: &'a str) -> Arg<'a>
     ensures local { result.global ≡ false }
 {
     Arg::new(alloc, id).help(help).required(true)
+}
+
+/// A required number from 0 to 65535.
+pub fn number<'a>(alloc: Global, id: &'a str, help: &'a str) -> Arg<'a>
+    ensures rule { rule_of result ≡ number_rule id.entry.now 65535 }
+    ensures local { result.global ≡ false }
+{
+    required(alloc, id, help).value_parser(value_parser!(u16))
+}
+
+/// The number from 0 to 65535 that was matched for an argument.
+pub fn number_of(found: &ArgMatches<'_>, id: &str) -> Option<u16>
+    ensures some { IfSome result (IsNumber (rows_of (found_of found.now)) id.now) }
+    ensures none { IfNone result (¬ HasNumber (rows_of (found_of found.now)) id.now 65535) }
+{
+    found.get_one(id)
 }
 
 /// The word that was matched for an argument.

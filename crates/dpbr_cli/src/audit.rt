@@ -19,7 +19,7 @@ pub fn command<'a>(alloc: Global) -> Result<Command<'a>, AllocError>
     let list = required(
         alloc,
         "LIST",
-        "a text of packages, in the order in which they were built",
+        "the packages, in the order in which they were built",
     );
     let about =
         "Says whether builds of a listing can have made the packages of a list, in its order.";

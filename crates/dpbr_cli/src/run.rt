@@ -17,7 +17,7 @@ pub fn command<'a>(alloc: Global) -> Result<Command<'a>, AllocError>
 {
     let listing = required(alloc, "LISTING", "a listing of the ports tree");
     let trace = required(alloc, "TRACE", "the events of a run, as JSON");
-    let about = "Runs a trace, and prints what each node shows and the list of what is agreed.";
+    let about = "Runs a trace, and prints what each node shows and which packages are agreed.";
     arguments::command(alloc, "run", about, listing, trace)
 }
 

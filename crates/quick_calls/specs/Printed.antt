@@ -8,7 +8,7 @@ use Rattle.faults.specs.Bytes.{Text}
 use Rattle.program_io.specs.Printing.{AppendsBeginning}
 use Rattle.dpbr_cli.specs.Calls.{AreTaken, IsCallOf, matched}
 use Rattle.dpbr_cli.specs.declared.Call.{Call}
-use Rattle.dpbr_cli.specs.declared.Call.TheVariants.{Audit, Run, Status, Wayon}
+use Rattle.dpbr_cli.specs.declared.Call.TheVariants.{Audit, Explain, Release, Run, Status, Wayon}
 
 -- what a call prints if reads of its names gave some texts, and its status; others print nothing
 abbrev pub IsOutputOf : (Text → Text → Type 0) → Call → ℕ → Text → Type 0
@@ -18,6 +18,8 @@ IsOutputOf Gave (Audit listing list is_single) status text =
     IsAudit Gave listing.now list.now is_single status text
 IsOutputOf Gave (Run listing trace is_single) status text = ⊥
 IsOutputOf Gave (Wayon listing trace node path host builds is_single) status text = ⊥
+IsOutputOf Gave (Explain number) status text = ⊥
+IsOutputOf Gave Release status text = ⊥
 
 -- what was written since, if that is known, is such a text, and this is its status
 pub record HasPrinted (Gave : Text → Text → Type 0) (call : Call) (status : ℕ)

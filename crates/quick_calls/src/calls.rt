@@ -138,6 +138,6 @@ fn answer_of_files<T: NamedTexts>(
             list,
             is_single,
         } => Ok(Some(audit_of_files(texts, alloc, listing, list, *is_single)?)),
-        Call::Run { .. } | Call::Wayon { .. } => Ok(None),
+        Call::Run { .. } | Call::Wayon { .. } | Call::Explain { .. } | Call::Release => Ok(None),
     }
 }

@@ -1,13 +1,15 @@
 //! The calls of `dpbr`. The program ends after one call, so `status` and `audit` don't free what is
 //! large then; the system does.
-ghost use Rattle.std.specs.Prelude.{◌≡◌, ◌≤◌, ◌⊎◌, IfErr, IfOk, map, string_bytes};
+ghost use Rattle.std.specs.Prelude.{◌≡◌, ◌≤◌, ◌⊎◌, IfErr, IfOk, codes, map, string_bytes};
 ghost use Rattle.std.specs.Io.KnownBytes.{Keeps};
 ghost use Rattle.replay.specs.Printed.{HasCarriedOut, HasPrinted, IsOutputOf};
 ghost use Rattle.replay.specs.Stopped.{CannotCarryOut, HasFailed, HasStopped, RefusesCall};
 ghost use Rattle.dpbr_cli.specs.Calls.{AreTaken};
+ghost use Rattle.dpbr_cli.specs.Explaining.{explanation, release_line};
+ghost use Rattle.program_io.specs.Refusals.{memory_refusal};
 
 use dpbr_audit::audit_of_files;
-use dpbr_cli::{Call, dpbr_words};
+use dpbr_cli::{Call, dpbr_words, explanation, release_text};
 use dpbr_run::run_of_files;
 use dpbr_status::status_of_files;
 use dpbr_wayon::{Target, wayon_of_files};
@@ -140,5 +142,27 @@ fn answer_of_files<T: NamedTexts>(
             };
             wayon_of_files(texts, alloc, listing, trace, &target, builds, *is_single)
         }
+        Call::Explain { number } => explained(alloc, *number),
+        Call::Release => release(alloc),
     }
+}
+
+/// The explanation of a fault.
+fn explained(alloc: Global, number: u16) -> Result<Answer, Refusal>
+    ensures output { IfOk result
+        (λ answer. (answer.status ≡ 0) × (answer.text.items ≡ explanation number)) }
+    ensures refused { IfErr result (λ r. r ≡ memory_refusal) }
+{
+    let text = explanation(alloc, number)?.into_bytes();
+    Ok(Answer { text, status: 0 })
+}
+
+/// The program's name and its release.
+fn release(alloc: Global) -> Result<Answer, Refusal>
+    ensures output { IfOk result
+        (λ answer. (answer.status ≡ 0) × (answer.text.items ≡ release_line (codes "dpbr"))) }
+    ensures refused { IfErr result (λ r. r ≡ memory_refusal) }
+{
+    let text = release_text(alloc, "dpbr")?.into_bytes();
+    Ok(Answer { text, status: 0 })
 }

@@ -3,6 +3,7 @@ use Rattle.std.specs.Prelude.{◌≡◌, ◌⊎◌, ℕ, codes, pos, List, Optio
 use Rattle.std.specs.Borrow.{Bor}
 use Rattle.clap.specs.Words.{IsSignedIn, Row, Text, first_of, one_of, without_minus}
 use Rattle.dpbn_cli.specs.Calls.{IsNumberIf, IsText}
+use Rattle.dpbr_cli.specs.shared.Numbers.{HasNumber as HasShort}
 
 -- a text was matched for the argument
 abbrev pub HasText : List Row → Text → Type 0
@@ -76,4 +77,5 @@ NamesCall (Some (name, rows)) =
     ((name ≡ codes "cluster") × HasFiles rows)
     ⊎ (((name ≡ codes "node") × HasNode rows)
     ⊎ (((name ≡ codes "build") × HasBuild rows)
-    ⊎ ((name ≡ codes "key") × HasText rows (codes "FILE"))))
+    ⊎ (((name ≡ codes "key") × HasText rows (codes "FILE"))
+    ⊎ ((name ≡ codes "explain") × HasShort rows (codes "NUMBER") 65535))))

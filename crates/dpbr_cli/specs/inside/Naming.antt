@@ -1,16 +1,12 @@
 -- Which matches are those of a call.
-use Rattle.std.specs.Prelude.{◌≡◌, ◌⊎◌, codes, fold, ℕ, pos, List, [], ◌∷◌, Option, None, Some}
-use Rattle.clap.specs.Words.{App, IsSignedIn, Row, Text, new_app, one_of, with_rule, without_minus}
+use Rattle.std.specs.Prelude.{◌≡◌, ◌⊎◌, codes, fold, List, [], ◌∷◌, Option, None, Some}
+use Rattle.clap.specs.Words.{App, Row, Text, new_app, with_rule}
 use Rattle.dpbr_cli.specs.Calls.{IsWord, number, word}
+use Rattle.dpbr_cli.specs.shared.Numbers.{HasNumber}
 
 -- a word was matched for each of two arguments
 abbrev pub HasBoth : List Row → Text → Text → Type 0
 HasBoth rows one other = ((t : Text) × IsWord rows one t) × ((t : Text) × IsWord rows other t)
-
--- a number from 0 to this maximum was matched for the argument
-abbrev pub HasNumber : List Row → Text → ℕ → Type 0
-HasNumber rows id most =
-    (t : Text) × IsSignedIn (pos 0) (pos most) t × (one_of id rows ≡ Some (without_minus t))
 
 -- a word or a number was matched for each argument of `wayon`
 pub record NamesWay (rows : List Row) : Type 0 where
@@ -27,6 +23,7 @@ NamesCall (Some (name, rows)) =
     ⊎ ((name ≡ codes "audit") × HasBoth rows (codes "LISTING") (codes "LIST"))
     ⊎ ((name ≡ codes "run") × HasBoth rows (codes "LISTING") (codes "TRACE"))
     ⊎ ((name ≡ codes "wayon") × NamesWay rows)
+    ⊎ ((name ≡ codes "explain") × HasNumber rows (codes "NUMBER") 65535)
 
 -- the arguments of `wayon` up to its path, as a command of their own
 abbrev pub wayon_front : App
