@@ -817,9 +817,11 @@ def shown_runs(tally, path, behind, until=None):
             more = [it for it in text.split("\n") if it.startswith("> ")]
             command = "\n".join([line, *(it[2:] for it in more)]).replace("\\e", "\\").replace("--base 7000", f"--base {free_ports(3)}")
             wanted = sorted(it for it in text.split("\n") if it and not it.startswith("> "))
-            done = subprocess.run(["sh", "-c", command], cwd=folder, capture_output=True, text=True, timeout=300, env={**os.environ, "PATH": programs})
+            done = subprocess.run(["sh", "-c", command], cwd=folder, capture_output=True, text=True, timeout=900, env={**os.environ, "PATH": programs})
             got = sorted(done.stdout.split("\n"))
-            right = [it for it in got if it] == wanted and not done.stderr
+            # draw-trace says so if its driver isn't built, and compiles the driver's sources
+            said = [it for it in done.stderr.split("\n") if it and not it.startswith("draw-trace: `tools/prove probes` was not run")]
+            right = [it for it in got if it] == wanted and not said
             tally.add(f"man/{os.path.basename(path)}, {line}", "" if right else f"it shows {wanted}, and {got} {done.stderr} is printed")
 
 
