@@ -1,4 +1,4 @@
--- What `dpbn build` prints, and what is told where it can't run.
+-- What `dpbn build` prints, and its refusals.
 use Rattle.std.specs.Prelude.{◌≡◌, ◌<◌, ◌⊎◌, ◌==◌, ◌&&◌, ℕ, Option, None, Some, if◌then◌else◌, option_map}
 use Rattle.dpbn_build.specs.Turns.{HaveTurned}
 pub use Rattle.dpbn_node.specs.Node.{IsNodeText, RefusesNode}
@@ -26,8 +26,8 @@ use Rattle.udp.specs.Calls.{DoesOverUdp}
 
 -- ---- what is printed
 
--- Some turns led from one state of the node to another, at its end; and the port then handed the
--- system all that waited to leave.
+-- Some turns led from one state of the node to another, in which it ends; and then the port handed
+-- the system all datagrams that were queued to be sent.
 pub record HasBuilt (rest : Option ℕ) (old new : Running) : Type 0 where
   pub last : Running
   pub turned : HaveTurned file_agrees file_history (λ disk. disk.failures) (λ port. None)
@@ -35,31 +35,31 @@ pub record HasBuilt (rest : Option ℕ) (old new : Running) : Type 0 where
       (λ port hurry. record port { hurry = hurry }) rest old last
   pub flushed : HasFlushed last new
 
--- the status: 0 where the node is up, and no package is queued and none waits; else 3
+-- the status: 0 if the node is up, no package is queued, and none waits; else 3
 abbrev pub status_of : Option Counts → ℕ
 status_of None = 3
 status_of (Some c) = if c.q == 0 && c.t == 0 then 0 else 3
 
--- The line says what the node shows, and the status whether that is all that can be held.
+-- The line shows the node's counts, and the status says whether all that can be held is held.
 abbrev pub IsLineWith : ℕ → Option State → Text → ℕ → Type 0
 IsLineWith me None line status = (line ≡ node_line me None) × (status ≡ status_of None)
 IsLineWith me (Some s) line status =
     (c : Counts) × AreCounts s c × (line ≡ node_line me (Some c)) × (status ≡ status_of (Some c))
 
--- So they say it of the node behind its turns.
+-- They are the line and the status of the node after its turns.
 pub record IsLineAfter (rest : Option ℕ) (before : Running) (me : ℕ) (line : Text)
     (status : ℕ) : Type 0 where
   pub after : Running
   pub built : HasBuilt rest before after
   pub is_line : IsLineWith me (letters_of after.node.node) line status
 
--- the run that the words tell
+-- the run that the words name
 abbrev pub IsTold : Site → Peers → Run → RunOf → Type 0
 IsTold site peers run of =
     IsRunOf site.is_single site.members (option_map (λ t. t.now) site.weights) peers run of
 
--- The text is the line of the member's node of the run that the words tell, behind turns in which
--- it had built what it claimed.
+-- The text is the line of the member's node, in the run that the words name, after turns in which
+-- its claims were built.
 pub record IsBuildText (site : Site) (me : ℕ) (peers : Peers) (run : Run) (text : Text)
     (status : ℕ) : Type 0 where
   pub of : RunOf
@@ -79,18 +79,18 @@ LacksNotes i log = file_agrees log
 abbrev pub work_refusal : Refusal
 work_refusal = record { number = 1209; place = None }
 
--- So it is told where the log on which a start in the run is made has no notes.
+-- That is the refusal if the log on which the node starts in the run has no notes.
 abbrev pub RefusesWork : RunOf → ℕ → Refusal → Type 0
 RefusesWork of me r =
     (begun : Begun) × HasBegun of me begun
     × LacksNotes (owner of.tree of.weights me) begun.start.disk × (r ≡ work_refusal)
 
--- what is told of the start in the run, and of the work folder there
+-- the refusals of the start in the run, and of the work folder
 abbrev pub RefusesBuildOn : RunOf → ℕ → Refusal → Type 0
 RefusesBuildOn of me r = RefusesStart me of r ⊎ RefusesWork of me r
 
--- what is told before the first turn: of the listing, of the weights, of the key's file and the
--- hosts, or of the start in the run that the words tell and of the work folder there
+-- the refusals before the first turn: of the listing, of the weights, of the key's file and the
+-- hosts, and of the start and the work folder in the run that the words name
 abbrev pub RefusesBuild : Site → ℕ → Peers → Run → Refusal → Type 0
 RefusesBuild site me peers run r =
     RefusesListingFile site.is_single r

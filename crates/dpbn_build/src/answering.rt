@@ -1,4 +1,4 @@
-//! The answer of `dpbn build` to its words.
+//! The command `dpbn build`.
 ghost use Rattle.std.specs.Prelude.{◌≡◌, ◌<◌, ◌≤◌, ◌⊎◌, IfErr, IfOk, false, length};
 ghost use Rattle.dpbn_build.specs.Build.{
   IsBuildText,
@@ -15,6 +15,7 @@ ghost use Rattle.dpbn_node.specs.Starts.{IsStartRefusal};
 ghost use Rattle.program_io.specs.Refusals.{IsSystemRefusal};
 
 use crate::ending::Rest;
+use crate::host::Builder;
 use crate::office::Office;
 use crate::pacing::Pacing;
 use crate::turning::run;
@@ -37,21 +38,21 @@ use std::io::Write;
 use std::time::{Duration, Instant};
 use udp::UdpPort;
 
-/// For how many seconds a unit is left to another member, where it isn't told.
+/// For how many seconds a unit is left to another member by default.
 const TAKEOVER: u32 = 600;
 
-/// Runs the member's node until it is down or comes to rest, and answers the line on it; with the
-/// status 0 where all that isn't ignored is held, and else 3. What a turn or the work folder
-/// refuses is told on `err`, and the node goes on.
+/// Runs the member's node until it is down or at rest, and returns its line. The status is 0 if all
+/// that isn't ignored is held, and 3 otherwise. Faults of turns and of the work folder are printed
+/// on `err`, and the node goes on.
 ///
-/// All that can be wrong is looked at before the first turn, in this order: the listing, the
-/// weights, the key's file, the hosts, the member, the log's file and the run file beside it, the
-/// socket, the work folder, and the clock; all these before a byte of the log is written. Then the
-/// log itself, and whether the run file can be written.
+/// Everything is checked before the first turn, in this order: the listing, the weights, the key's
+/// file, the hosts, the member, the log's file and its run file, the socket, the work
+/// folder, and the clock. No byte of the log is written before all of these passed. Then come the
+/// log itself and the writing of the run file.
 ///
 /// # Errors
 ///
-/// The first of these that is wrong.
+/// The first check that failed.
 pub fn build_of_words<E: Write>(
     rt: &HostRuntime,
     site: &Site<'_>,
@@ -73,7 +74,7 @@ pub fn build_of_words<E: Write>(
     build_on(rt, &tree, &weights, site, me, place, err)
 }
 
-/// The answer of the member's node, which begins at this place.
+/// Runs the member's node, which starts at this place.
 fn build_on<E: Write>(
     rt: &HostRuntime,
     tree: &Tree,
@@ -100,12 +101,12 @@ fn build_on<E: Write>(
     build_on_log(rt, start, port, office, tree, weights, site, me, err)
 }
 
-/// Whether the owner's log has notes, as far as its length tells: one that is longer than a log
-/// without any counts as one with some. Nothing of it is written.
+/// Whether the owner's log has notes, judged by its length: a log that is longer than an empty one
+/// has some. Nothing is written.
 ///
 /// # Errors
 ///
-/// That the log can't be read.
+/// The log can't be read.
 fn has_notes(disk: &mut FileDisk, owner: &Identity) -> Result<bool, Refusal>
     ensures lacks { IfOk result (λ has. has ≡ false → LacksNotes owner.now disk.new) }
     ensures refused { IfErr result (λ r. (shown : _) (is_continued : _)
@@ -120,12 +121,12 @@ fn has_notes(disk: &mut FileDisk, owner: &Identity) -> Result<bool, Refusal>
     }
 }
 
-/// What goes on beside the turns of the node, which has the work folder to itself.
+/// The work between the node's turns. The node has the work folder to itself.
 ///
 /// # Errors
 ///
-/// What the system refused of the work folder or the clock; that the folder has files, where the
-/// node's log has no notes.
+/// The system refused to open the work folder or to read the clock; or the folder has files
+/// although the node's log has no notes.
 fn office_of<'f>(
     rt: &HostRuntime,
     site: &Site<'f>,
@@ -139,12 +140,13 @@ fn office_of<'f>(
     let folder = folder_of(rt, site.work, me, has_notes)?;
     let now = Instant::now(rt)?;
     let takeover = site.takeover.unwrap_or(TAKEOVER);
+    let pace = pace_of(site.jobs, takeover);
     Ok(Office {
-        desk: Desk::new(rt.alloc(), folder, pace_of(site.jobs, takeover), now),
+        desk: Desk::new(rt.alloc(), folder, pace, has_notes, now),
         pacing: Pacing::new(now),
+        builder: Builder::new(now),
         rest: Rest::new(now, takeover, site.members),
         telling,
-        is_lone: site.members == 1,
         progress: site.progress,
         told_at: now,
         looked_at: now,
@@ -152,7 +154,7 @@ fn office_of<'f>(
     })
 }
 
-/// The work folder.
+/// Opens the work folder.
 fn folder_of<'f>(
     rt: &HostRuntime,
     path: &'f str,
@@ -168,8 +170,8 @@ fn folder_of<'f>(
     }
 }
 
-/// How long is waited, where so many units are built at a time, one if it isn't told, and another
-/// member's unit is left to it for so many seconds.
+/// The waits of a node that builds `jobs` units at a time, by default one, and leaves the units of
+/// other members to them for `takeover` seconds.
 fn pace_of(jobs: Option<u8>, takeover: u32) -> Pace {
     Pace {
         jobs: u32::from(jobs.unwrap_or(1)),
@@ -179,7 +181,7 @@ fn pace_of(jobs: Option<u8>, takeover: u32) -> Pace {
     }
 }
 
-/// The answer of the member's node on the log on which it starts.
+/// Runs the member's node on the log on which it starts.
 fn build_on_log<E: Write>(
     rt: &HostRuntime,
     start: Start,
@@ -207,7 +209,7 @@ fn build_on_log<E: Write>(
     }
 }
 
-/// The answer of the node, after its turns.
+/// Runs the node's turns, and returns its answer.
 fn answer_after<E: Write>(
     rt: &HostRuntime,
     solo: Solo<'_, FileDisk, UdpPort<'_, HostRuntime>>,
@@ -225,7 +227,7 @@ fn answer_after<E: Write>(
     answer_of(rt.alloc(), &solo, me)
 }
 
-/// The answer of the node as it is.
+/// The node's line and status at the moment.
 fn answer_of<D: Disk, P: Port>(
     alloc: Global,
     solo: &Solo<'_, D, P>,
@@ -242,7 +244,7 @@ fn answer_of<D: Disk, P: Port>(
     })
 }
 
-/// The status for what is shown: 0 where the node is up, and no package is queued and none waits.
+/// The status for these counts: 0 if the node is up, no package is queued, and none waits.
 fn status_of(counts: Option<Counts>) -> u8
     ensures { result ≡ status_of counts }
 {

@@ -1,9 +1,10 @@
-//! What `dpbn build` does: one member's node runs on its log, hears its peers over UDP, and has
-//! what it claims built by whoever looks into the work folder. It passes on what `dpbn node` does.
+//! The command `dpbn build`: one member's node runs on its log and talks to its peers over UDP. A
+//! builder that watches the work folder builds what it claims. `dpbn node` is passed on.
 #![tactic(auto)]
 
 mod answering;
 mod ending;
+mod host;
 mod office;
 mod pacing;
 mod turning;

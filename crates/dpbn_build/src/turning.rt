@@ -1,4 +1,4 @@
-//! The turns of a node that has built what it claims.
+//! The turns of a node whose claims are built while it runs.
 ghost use Rattle.std.specs.Prelude.{◌≡◌};
 ghost use Rattle.dpbn_build.specs.Build.{HasBuilt};
 ghost use Rattle.dpbn_build.specs.Turns.{HaveTurned, IsTurn, Turn};
@@ -13,19 +13,19 @@ use std::io::Write;
 use std::time::Clock;
 use udp::{Hurry, Tallies, UdpPort};
 
-/// A port that can be told how long to wait, and that counts what it sends and sees.
+/// A port with an adjustable wait that counts what it sends and receives.
 pub(crate) trait Hurried {
-    /// The port once it is told how long to wait.
+    /// The port with this wait.
     ghost hurried: { Self → Hurry → Self };
 
-    /// Tells how long a receive waits where nothing came.
+    /// Sets how long a receive waits if nothing came.
     fn set_hurry(&mut self, hurry: Hurry)
         ensures { self.new ≡ hurried self.old hurry };
 
-    /// How many datagrams were offered so far.
+    /// The number of datagrams that were offered so far.
     fn sends(&self) -> u64;
 
-    /// What it saw of the members.
+    /// What it received from each member.
     fn seen(&self) -> &Tallies;
 }
 
@@ -45,8 +45,8 @@ impl<'c, C: Clock> Hurried for UdpPort<'c, C> {
     }
 }
 
-/// Takes turns until the node is down or comes to rest, and then sends what waits to leave. What a
-/// turn refuses is told on `err`, and so is what else is to be told as it goes.
+/// Takes turns until the node is down or at rest, and then sends what is still queued to be sent.
+/// Faults of turns are printed on `err`, and so are the node's lines.
 pub(crate) fn run<E: Write>(
     rt: &HostRuntime,
     solo: &mut Solo<'_, FileDisk, UdpPort<'_, HostRuntime>>,
@@ -61,7 +61,7 @@ pub(crate) fn run<E: Write>(
     office.telling.tell_members(solo.port().seen(), err);
 }
 
-/// Takes turns until the node is down or comes to rest.
+/// Takes turns until the node is down or at rest.
 fn take_turns<D: Disk, P: Port + Hurried, E: Write>(
     rt: &HostRuntime,
     solo: &mut Solo<'_, D, P>,
@@ -81,7 +81,7 @@ fn take_turns<D: Disk, P: Port + Hurried, E: Write>(
     }
 }
 
-/// Takes a turn, and keeps and tells what follows of it.
+/// Takes a turn, and updates and prints what follows from it.
 fn take_turn<D: Disk, P: Port + Hurried, E: Write>(
     rt: &HostRuntime,
     solo: &mut Solo<'_, D, P>,
@@ -105,7 +105,7 @@ fn take_turn<D: Disk, P: Port + Hurried, E: Write>(
     office.keep(rt, solo, turned, err);
 }
 
-/// Tells what is due behind a turn.
+/// Prints what is due after a turn.
 fn tell_turn<D: Disk, P: Port + Hurried, E: Write>(
     rt: &HostRuntime,
     solo: &mut Solo<'_, D, P>,

@@ -13,10 +13,10 @@ use crate::text::job_text;
 use claims::Job;
 use std::alloc::{AllocError, Global};
 use std::fs;
-use std::fs::{File, OpenOptions};
+use std::fs::{File, OpenOptions, TryLockError};
 use std::io::{ErrorKind, Read, Write};
 
-/// One of the three subfolders.
+/// One of the subfolders.
 #[derive(Clone, Copy)]
 enum Part {
     /// What is to be built. The node writes here.
@@ -25,6 +25,8 @@ enum Part {
     Done,
     /// What failed. Builders write here, and the node does for results that it finds malformed.
     Failed,
+    /// What has begun. Builders write here.
+    Begun,
 }
 
 impl Part {
@@ -33,6 +35,7 @@ impl Part {
             Part::Jobs => "jobs",
             Part::Done => "done",
             Part::Failed => "failed",
+            Part::Begun => "begun",
         }
     }
 }
@@ -160,6 +163,71 @@ impl<'f> Folder<'f> {
             return Ok(true);
         }
         self.stands(rt, Part::Done, name)
+    }
+
+    /// Whether a builder has begun the job with this name.
+    ///
+    /// # Errors
+    ///
+    /// What the system refused.
+    pub fn has_begun(&self, rt: &HostRuntime, name: &Name) -> Result<bool, WorkFault>
+        ensures { IfErr result IsOfSystem }
+    {
+        self.stands(rt, Part::Begun, name)
+    }
+
+    /// Removes the job with this name, so that nobody begins it. It may be gone already.
+    ///
+    /// # Errors
+    ///
+    /// What the system refused.
+    pub fn withdraw(&self, rt: &HostRuntime, name: &Name) -> Result<(), WorkFault>
+        ensures { IfErr result IsOfSystem }
+    {
+        self.remove(rt, Part::Jobs, name)
+    }
+
+    /// Whether this host takes no jobs at the moment: a builder says with a file `away` that it
+    /// can't build now, or an operator drains the host with a file `stop`.
+    ///
+    /// # Errors
+    ///
+    /// What the system refused.
+    pub fn is_away(&self, rt: &HostRuntime) -> Result<bool, WorkFault>
+        ensures { IfErr result IsOfSystem }
+    {
+        Ok(self.stands_beside(rt, "away")? || self.stands_beside(rt, "stop")?)
+    }
+
+    /// Whether a file with this name is beside the subfolders.
+    fn stands_beside(&self, rt: &HostRuntime, name: &str) -> Result<bool, WorkFault>
+        ensures { IfErr result IsOfSystem }
+    {
+        let folder = self.path;
+        let path = format!(in rt.alloc(); "{folder}/{name}")?;
+        Ok(fs::exists(rt, path.as_str())?)
+    }
+
+    /// Whether somebody holds the lock of the folder, as a builder does.
+    ///
+    /// # Errors
+    ///
+    /// What the system refused.
+    pub fn is_locked(&self, rt: &HostRuntime) -> Result<bool, WorkFault>
+        ensures { IfErr result IsOfSystem }
+    {
+        let folder = self.path;
+        let path = format!(in rt.alloc(); "{folder}/lock")?;
+        let file = match OpenOptions::new().read(true).open(rt, path.as_str()) {
+            Ok(file) => file,
+            Err(error) if error.kind() == ErrorKind::NotFound => return Ok(false),
+            Err(error) => return Err(WorkFault::from(error)),
+        };
+        match file.try_lock_shared() {
+            Ok(()) => Ok(false),
+            Err(TryLockError::WouldBlock) => Ok(true),
+            Err(TryLockError::Error(error)) => Err(WorkFault::from(error)),
+        }
     }
 
     /// Marks the build with this name as failed, with a line that says why, because its result is

@@ -1,7 +1,9 @@
 mod Among
+mod Asked
 mod HeldUnits
+mod KeptUnits
 mod Left
 mod Moved
-pub mod Named
-mod Seen
+mod Named
+mod SeenUnits
 mod Wished
