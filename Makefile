@@ -6,7 +6,7 @@ MANDIR ?=	$(PREFIX)/man
 SHAREDIR ?=	$(PREFIX)/share/dpbn
 # what is installed beside the programs; each has a page in man/
 TOOLS =		expand-listing why-ignored unpack-log make-builds build-jobs make-listing order-listing build-over-ssh \
-		dpbn-report dpbn-host dpbn-hosts
+		dpbn-report dpbn-host dpbn-hosts draw-trace
 
 all:
 	tools/build dpbr dpbn
@@ -49,6 +49,7 @@ bench: all
 	-bench/nodes
 	-bench/live
 	-bench/bulk
+	-bench/latency
 	-bench/link
 	-bench/seals
 

@@ -8,6 +8,7 @@ import os
 import statistics
 import subprocess
 import sys
+from typing import List, Tuple
 
 TOP = os.path.dirname(os.path.dirname(os.path.abspath(__file__)))
 PROGRAM = f"{TOP}/crates/dpbr/out/dpbr"
@@ -39,7 +40,7 @@ def path_of(numbers, n):
     return path
 
 
-def listing(paths, some_ignored=True):
+def listing(paths: int, some_ignored: bool = True) -> Tuple[str, List[str], List[Tuple[str, List[int]]]]:
     """The listing's lines, its paths in order, and for each its name and the places of its build dependencies."""
     numbers = Numbers(paths)
     names = [path_of(numbers, n) for n in range(paths)]

@@ -31,6 +31,7 @@ class Units:
         self.to_build: Dict[str, Set[str]] = {}
         self.to_run: Dict[str, Set[str]] = {}
         self.ignored: Set[str] = set()
+        self.name_of: Dict[str, str] = {}
         self.read(lines)
         groups: Dict[str, List[str]] = {}
         for path in self.paths:
@@ -40,7 +41,8 @@ class Units:
         self.packages = {group if len(paths) > 1 else paths[0]: paths for group, paths in groups.items()}
         self.unit_of = {path: unit for unit, paths in self.packages.items() for path in paths}
         self.names = list(self.packages)
-        self.place = {unit: min(map(self.paths.index, paths)) for unit, paths in self.packages.items()}
+        place_of = {path: place for place, path in enumerate(self.paths)}
+        self.place = {unit: min(place_of[path] for path in paths) for unit, paths in self.packages.items()}
         self.needs = {unit: self.needed(unit) for unit in self.names}
         self.users: Dict[str, List[str]] = {unit: [] for unit in self.names}
         for unit, needs in self.needs.items():
@@ -56,6 +58,8 @@ class Units:
             if path not in self.to_build:
                 self.paths.append(path)
                 self.to_build[path], self.to_run[path] = set(), set()
+            if variable == "FULLPKGNAME":
+                self.name_of[path] = value.strip()
             if variable in ("BUILD_DEPENDS", "LIB_DEPENDS"):
                 self.to_build[path] |= paths_named(value)
             if variable in ("RUN_DEPENDS", "LIB_DEPENDS"):

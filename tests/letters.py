@@ -16,7 +16,7 @@ MARKS = {"alpha": 0, "beta": 1, "pre": 2, "rc": 3, "pl": 5}
 
 
 class Refused(Exception):
-    """The listing is none."""
+    """The listing is malformed."""
 
 
 def expect(holds: bool, what: str) -> None:

@@ -1,5 +1,5 @@
-"""A made ports tree of the size and shape of OpenBSD's: what `make dump-vars` prints of it, what it answers for flavors that are
-asked for, what a listing of it has to say, and how long its builds take. The same in every run."""
+"""A made ports tree of the size and shape of OpenBSD's: what `make dump-vars` prints of it, and what it answers for
+flavors that are asked for. Also what a listing of it has to say, and how long its builds take. The same in every run."""
 import bisect
 import random
 from typing import Dict, List, NamedTuple, Set, Tuple
@@ -16,7 +16,7 @@ GIANTS: Dict[str, Tuple[float, List[str]]] = {
     "www/webkitgtk4": (3, ["devel/llvm/18"]), "editors/libreoffice": (4, ["x11/qt6/qtbase"]), "x11/qt6/qtbase": (.6, ["lang/gcc"]),
     "x11/qt6/qtwebengine": (7, ["x11/qt6/qtbase", "lang/node"]), "x11/qt5/qtwebengine": (7, ["x11/qt6/qtbase"]),
     "mail/mozilla-thunderbird": (2, ["lang/rust", "lang/node"])}
-# ports of which each is needed in a flavor by the flavor of the one before it alone: each is found a round later
+# ports of which each is needed in a flavor only by the flavor of the one before it: each is found a round later
 DEEP = [f"devel/deep{number}" for number in range(5)]
 # what is wrong with a port, and the words by which make-listing counts it
 FAULTS = {"wildcard": "a wildcard in a stem", "form": "a dependency of another form", "name": "no package name",
@@ -49,7 +49,7 @@ class Port:
         return [self.family(flavor) + (f",{part}" if part else "") for part in self.parts]
 
     def first(self, flavor: str) -> str:
-        """The path that replaces the port where no subpackage is named."""
+        """The path that replaces the port if no subpackage is named."""
         return self.paths(flavor)[0]
 
     def name(self, flavor: str, part: str) -> str:
@@ -200,7 +200,7 @@ class Tree:
         return found
 
     def followed(self, port: Port, flavor: str) -> List[Need]:
-        """What a port needs, unless it is ignored: of a port with subpackages some faults make the first one ignored alone."""
+        """What a port needs, unless it is ignored: of a port with subpackages some faults make only the first one ignored."""
         kinds = list(port.needs[flavor])
         if port.fault in ("name", "break", "message") or len(port.parts) == 1 and port.fault not in ("", "missing"):
             return []

@@ -43,7 +43,8 @@ def files(top: str) -> Iterator[Tuple[str, str]]:
             yield path, "text"
     for path in found("man/*.[1-8]"):
         yield path, "page"
-    for path in found("tools/*", "tools/*/*.py", "bench/*", "tests/run", "tests/kills", "tests/try-wrong-bodies", "tests/*.py", "tests/topics/*.py",
+    for path in found("tools/*", "tools/*/*.py", "bench/*", "tests/run", "tests/kills", "tests/soak", "tests/try-wrong-bodies", "tests/*.py",
+                      "tests/topics/*.py", "tests/soak_parts/*.py",
                       "dpbr", "dpbn"):
         if path not in EXEMPT:
             yield path, "script"

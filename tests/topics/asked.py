@@ -64,7 +64,7 @@ def asked(folder, given):
     if os.path.exists(place):
         os.remove(place)
     environment = {**os.environ, "LD_PRELOAD": f"{folder}/refuse.so", "ASKED": place}
-    done = subprocess.run([PROBES], input=given, capture_output=True, timeout=120, env=environment)
+    done = subprocess.run([PROBES], input=given, capture_output=True, timeout=600, env=environment)
     if fallen(done.stderr, done.returncode):
         raise OSError(fallen(done.stderr, done.returncode))
     return int(contents(place)), [line.rpartition(b": ")[2] for line in done.stdout.split(b"\n")]
@@ -84,7 +84,7 @@ def problem(folder, text_of, times, may_be_spelled):
 def problem_again(folder):
     """What is wrong with what the known build itself asks for, if anything: it is shared, and a text as long that is not one is read."""
     again, read = (asked(folder, row(KNOWN, text, 3))[0] for text in (build(KNOWN), build(KNOWN, size=1)))
-    return "" if again < read else f"{again} bytes are asked for, and {read} where it is read"
+    return "" if again < read else f"{again} bytes are asked for, and {read} if it is read"
 
 
 def add(tally, name, problem, *given):

@@ -16,7 +16,8 @@ import sources
 # where `tools/prove probes` leaves it
 PROBES = sources.program_of("probes")
 HOW = "`tools/prove probes` builds it"
-SECONDS = 600
+# how long its answers may take, in seconds, on a machine that does other things, too
+SECONDS = 3600
 
 # what topics ask for before any of it is answered: functions that return texts
 ASKED = []

@@ -2,11 +2,11 @@
 import glob
 import os
 import re
-import resource
 import subprocess
 import sys
 import time
 
+from topics import lanes
 from topics.tally import PROGRAM, TOP
 
 sys.path.insert(0, f"{TOP}/tools")
@@ -24,12 +24,6 @@ def changed_since(began):
         folders[:] = [it for it in folders if it not in ("out", "must-fail")]
         files += [os.path.join(folder, name) for name in names]
     return any(os.path.getmtime(file) >= began for file in files)
-
-
-def processor_seconds():
-    """Those of all programs that were started here and have ended."""
-    used = resource.getrusage(resource.RUSAGE_CHILDREN)
-    return used.ru_utime + used.ru_stime
 
 
 def lines_in(path):
@@ -55,17 +49,25 @@ def note_built(began, last_lines):
         file.writelines(last_lines)
 
 
+def shown():
+    """The status of `rt ci`, and its lines, which are printed as they come."""
+    gate, lines = subprocess.Popen(["rt", "ci"], cwd=TOP, stdout=subprocess.PIPE, text=True), []
+    try:
+        for line in gate.stdout:
+            print(line, end="", flush=True)
+            lines.append(line)
+        return gate.wait(), lines
+    finally:
+        if gate.poll() is None:
+            gate.terminate()
+
+
 def run(tally):
     """Runs `rt ci`, shows what it prints, says how long it took for how much, and adds its counts."""
-    began, before = time.time(), processor_seconds()
-    gate = subprocess.Popen(["rt", "ci"], cwd=TOP, stdout=subprocess.PIPE, text=True)
-    lines = []
-    for line in gate.stdout:
-        print(line, end="", flush=True)
-        lines.append(line)
-    status = gate.wait()
-    took, used = time.time() - began, processor_seconds() - before
-    clock = f"{used / 60:.0f} processor minutes, {took / 60:.0f} by the clock on {len(os.sched_getaffinity(0))} cores"
+    began, before = time.time(), lanes.processor_seconds()
+    status, lines = shown()
+    took, used = time.time() - began, lanes.processor_seconds() - before
+    clock = f"{used / 60:.0f} processor minutes, {took / 60:.0f} by the clock on {lanes.processors()} processors"
     print(f"tests/run: the gate took {clock}: {judged()}", flush=True)
     counts = re.fullmatch(r"(\d+) passed, (\d+) failed\s*", lines[-1] if lines else "")
     if counts:

@@ -25,7 +25,7 @@ from dpbn_tools import host, host_ends, hosts, hosts_file, hosts_status, log_cop
 PLAYED = f"{TESTS}/played-dpbn" if "PLAYED" in os.environ else None
 NAMES = ("oak", "elm", "fir")
 # how long something is waited for, in seconds, on a machine that does other things, too
-LIMIT = 180
+LIMIT = 300
 TOOLS = ("build-jobs", "dpbn-host", "dpbn-hosts", "dpbn-report", "make-listing", "order-listing", "unpack-log", "why-ignored")
 
 # each large file is at two hosts before its build is handed in
@@ -73,9 +73,11 @@ def until(holds, seconds=LIMIT):
 
 
 def put(path, text, mode=0o644):
-    with open(path, "w") as file:
+    # a program may read it at any time
+    with open(f"{path}.new", "w") as file:
         file.write(text)
-    os.chmod(path, mode)
+    os.chmod(f"{path}.new", mode)
+    os.replace(f"{path}.new", path)
 
 
 def read(path):
@@ -206,7 +208,7 @@ OAK = "host oak 192.0.2.10:7000"
 BAD = [
     ("", "june: there is no line `listing`"), ("listing l\n", "june: there is no line `build`"), (BASE, "june: there is no line `host`"),
     (f"listing l\nbuild b\n\n{OAK}\n", "june:4: host oak has no folder: there is neither `dir=` nor a line `dir`"),
-    (BASE + "hosts oak\n", "june:4: 'hosts' is no word of this file"), (BASE + "listing m\n", "june:4: listing is there a second time"),
+    (BASE + "hosts oak\n", "june:4: 'hosts' isn't a word of this file"), (BASE + "listing m\n", "june:4: listing is there a second time"),
     ("listing\n", "june:1: listing needs a value"), ("listing ''\n", "june:1: listing needs a value"),
     ("listing a b\n", "june:1: listing has more than one value"), ("jobs 65\n", "june:1: jobs: '65' isn't one of 1 to 64"),
     ("node\n", "june:1: node needs a value"),
@@ -217,20 +219,20 @@ BAD = [
     ("driver --digests 0 -- sh\n", "june:1: -- isn't for driver: it follows from the rest of the file"),
     ("build 'a b\n", "june:1: a quotation isn't closed: No closing quotation"),
     ("host oak\n", "june:1: a host needs a name and an address, as in `host oak 192.0.2.10:7000`"),
-    ("host -oak 192.0.2.10:7000\n", "june:1: '-oak' is no name of a host"), ("host o/k 192.0.2.10:7000\n", "june:1: 'o/k' is no name of a host"),
-    *((f"host oak {it}\n", f"june:1: host oak: {it!r} is no IPv4 address with a port, as in 192.0.2.10:7000")
+    ("host -oak 192.0.2.10:7000\n", "june:1: '-oak' isn't a name of a host"), ("host o/k 192.0.2.10:7000\n", "june:1: 'o/k' isn't a name of a host"),
+    *((f"host oak {it}\n", f"june:1: host oak: {it!r} isn't an IPv4 address with a port, as in 192.0.2.10:7000")
       for it in ("192.0.2.10", "192.0.2:7000", "192.0.2.256:7000", "0.0.0.0:7000", "192.0.2.10:0", "192.0.2.10:65536", "192.0.2.010:7000", "oak:7000")),
     (f"{OAK}\n\nhost oak 192.0.2.11:7000\n", "june:3: the host oak is in line 1 already"),
     (f"{OAK}\nhost elm 192.0.2.10:7000\n", "june:2: host elm: 192.0.2.10:7000 is the address of oak, in line 1"),
     ("".join(f"host h{it} 192.0.2.{it + 1}:7000\n" for it in range(10)), "june:10: there are more than 9 hosts"),
-    (f"{OAK} jobs\n", "june:1: host oak: 'jobs' is no setting of a host: jobs=, weight=, dir=, work=, store=, bin=, ssh="),
-    (f"{OAK} job=1\n", "june:1: host oak: 'job=1' is no setting of a host: jobs=, weight=, dir=, work=, store=, bin=, ssh="),
+    (f"{OAK} jobs\n", "june:1: host oak: 'jobs' isn't a setting of a host: jobs=, weight=, dir=, work=, store=, bin=, ssh="),
+    (f"{OAK} job=1\n", "june:1: host oak: 'job=1' isn't a setting of a host: jobs=, weight=, dir=, work=, store=, bin=, ssh="),
     (f"{OAK} jobs=1 jobs=2\n", "june:1: host oak: jobs= is there a second time"), (f"{OAK} dir=\n", "june:1: host oak: dir= has no value"),
     (f"{OAK} jobs=0\n", "june:1: host oak: jobs: '0' isn't one of 1 to 64"), (f"{OAK} jobs=many\n", "june:1: host oak: jobs: 'many' isn't one of 1 to 64"),
     (f"{OAK} weight=101\n", "june:1: host oak: weight: '101' isn't one of 1 to 100"),
     (f"{OAK} ssh=-oProxyCommand=x\n", "june:1: host oak: '-oProxyCommand=x' is nothing that ssh can reach"),
     (BASE + f"{OAK} work='a\tb'\n", "june:4: host oak: work has a control character"), ("listing l\r\n", "june:1: it has a control character"),
-    ("listing l\n\udcff\n", "june:2: it has bytes that are no UTF-8"), ("#" * (1 << 20) + "\n", "june: it has more than 1048576 bytes"),
+    ("listing l\n\udcff\n", "june:2: it has bytes that aren't UTF-8"), ("#" * (1 << 20) + "\n", "june: it has more than 1048576 bytes"),
 ]
 
 
@@ -277,12 +279,19 @@ def pages(tally):
 
 # ---- three hosts
 
+def come_up(tally, bulk, name, out, *names):
+    """Hosts that were started come up, and what start printed says so: it waits ten seconds for that."""
+    up = until(lambda: all(bulk.lines().get(it, "").startswith("up ") for it in names))
+    check(tally, f"{name}, that {', '.join(names)} are up", up, bulk.lines(), [read(bulk.home(it, "june/keeper.out")) for it in names])
+    check(tally, f"{name}, what start says of it", all(re.search(f"^{it} +up ", out, re.MULTILINE) for it in names), out, timed=True)
+
+
 def started(tally, bulk):
     """Start makes a key, hands out what is needed, and both programs run on each host."""
     out, error, status = bulk.call("june", "start")
     lines = dict(line.split(None, 1) for line in out.splitlines())
-    right = list(lines) == list(NAMES) and all(line.startswith("up ") for line in lines.values())
-    check(tally, "start", right and (error, status) == ("", 0), out, error, status, [read(bulk.home(name, "june/keeper.out")) for name in NAMES])
+    check(tally, "start", list(lines) == list(NAMES) and (error, status) == ("", 0), out, error, status)
+    come_up(tally, bulk, "start", out, *NAMES)
     key = read(f"{bulk.folder}/june.key")
     keys = [read(bulk.home(name, "june/key")) for name in NAMES]
     modes = {os.stat(path).st_mode & 0o777 for path in (f"{bulk.folder}/june.key", *(bulk.home(name, "june/key") for name in NAMES))}
@@ -305,7 +314,8 @@ def crashed(tally, bulk):
     said = bulk.says("oak", "nobody starts it again", "oak")
     out = bulk.call("june", "start", "oak")
     same = [bulk.holder("oak", part) for part in ("node", "driver")] == pids
-    check(tally, "a keeper that is killed", said and same and out[2] == 0 and out[0].startswith("oak  up "), out, pids)
+    check(tally, "a keeper that is killed", said and same and out[2] == 0, out, pids)
+    come_up(tally, bulk, "a keeper that is killed", out[0], "oak")
     bulk.kill("oak", "node")
     back = until(lambda: bulk.holder("oak", "node") not in (None, pids[0]))
     check(tally, "a node that an earlier keeper started", back, read(bulk.home("oak", "june/keeper.out")))
@@ -368,8 +378,9 @@ def collected(tally, bulk):
     tally.add("collect, the packages", flat_problem(f"{bulk.folder}/june.d"))
     logs = [contents(f"{bulk.folder}/june.d/logs/node-{me}.log") == contents(bulk.home(name, f"june/node-{me}.log")) for me, name in enumerate(NAMES)]
     check(tally, "collect, the logs", logs == [True] * 3, logs)
-    units = sorted(line.split()[0].partition(",")[0] for line in read(f"{bulk.folder}/june.d/times").splitlines())
-    check(tally, "collect, the times", units == ["a/b", "a/c", "a/d", "a/e", "a/f"], units)
+    # after crashes and failures a unit may be built at two hosts
+    units = {line.split()[0].partition(",")[0] for line in read(f"{bulk.folder}/june.d/times").splitlines()}
+    check(tally, "collect, the times", units == {"a/b", "a/c", "a/d", "a/e", "a/f"}, sorted(units))
     there = {name for host in NAMES for name in os.listdir(f"{bulk.folder}/june.d/build-logs/{host}")}
     check(tally, "collect, the logs of builds", {"a:b.log", "a:f.log"} <= there, there)
     digests = [name for name in os.listdir(f"{bulk.folder}/june.d/store")]
@@ -475,7 +486,8 @@ def lost_logs(tally):
         put(f"{bulk.folder}/homes/fir.away", "")
         out, _, status = bulk.call("june", "start")
         away = "fir  no answer: ssh: connect to host fir port 22: Connection timed out"
-        check(tally, "a host that is away", status == 1 and out.splitlines()[2] == away and out.count("  up ") == 2, out, status)
+        check(tally, "a host that is away", status == 1 and out.splitlines()[2] == away, out, status)
+        come_up(tally, bulk, "a host that is away", out, "oak", "elm")
         bulk.call("june", "stop", "elm")
         shutil.rmtree(bulk.home("elm"))
         out, _, status = bulk.call("june", "start", "elm")
@@ -486,7 +498,8 @@ def lost_logs(tally):
         out, _, status = bulk.call("june", "start", "fir")
         check(tally, "a late host that may have begun", status == 1 and out.startswith("fir  it has no log, and elm, which may know of one, doesn't answer."), out)
         out, _, status = bulk.call("june", "start", "--new", "fir", "fir")
-        check(tally, "a late host", status == 0 and out.startswith("fir  up ") and "fir" in read(bulk.home("oak", "june/begun")), out, status)
+        check(tally, "a late host", status == 0 and "fir" in read(bulk.home("oak", "june/begun")), out, status)
+        come_up(tally, bulk, "a late host", out, "fir")
         bulk.write(node="--rest 1000", jobs=3)
         out, _, status = bulk.call("june", "start", "oak")
         check(tally, "a host that runs otherwise", (out, status) == ("oak  it runs with an earlier june: stop it, and start it again to have this one\n", 1), out)
@@ -523,7 +536,8 @@ def alone(tally):
     with laid() as bulk:
         put(f"{bulk.folder}/june", f"dir {bulk.folder}/run\nlisting listing\nbuild build-port\nssh -\nnode --progress 1 --rest 1000\nhost oak {bulk.addresses()[0]}\n")
         out, error, status = bulk.call("june", "start")
-        check(tally, "a host without ssh", status == 0 and out.startswith("oak  up "), out, error)
+        check(tally, "a host without ssh", status == 0, out, error)
+        come_up(tally, bulk, "a host without ssh", out, "oak")
         for text, line in (("1\ndpbn: fault 1204", "2 starts"), ("3\ndpbn: fault 1001 at 0", "down: fault 1001: the device of its log failed")):
             put(f"{bulk.folder}/run/play", text)
             check(tally, f"a host whose node ends with {text!r}", bulk.says("oak", line), bulk.lines(), read(f"{bulk.folder}/run/keeper.out"))
@@ -701,7 +715,7 @@ class Sshd:
             done = subprocess.run([self.real, "-F", config, "-o", "BatchMode=yes", "fir", "pwd"], stdin=subprocess.DEVNULL, capture_output=True, timeout=LIMIT)
             return done.stdout.decode().strip() == os.path.realpath(self.bulk.home("fir", "."))
 
-        if self.process.poll() is None and until(lambda: self.process.poll() is not None or enters(), 30) and self.process.poll() is None:
+        if self.process.poll() is None and until(lambda: self.process.poll() is not None or enters()) and self.process.poll() is None:
             put(f"{self.bulk.folder}/bin/ssh", f'#!/bin/sh\nexec {self.real} -F {config} "$@"\n', 0o755)
             return True
         return False
@@ -775,7 +789,9 @@ class Steps:
                 time.sleep(0.5)
                 wrong = self.run_block(commands)
         told = wrong and (wrong, [read(self.bulk.home(name, f"june/{part}.out"))[-600:] for name in NAMES for part in ("node", "driver")])
-        check(tally, f"dpbn-bulk(7): {'; '.join(line for line, _ in commands)}", not wrong, told)
+        # start waits ten seconds for the hosts, and prints how far they are
+        is_timed = any(line.startswith("dpbn-hosts june start") for line, _ in commands)
+        check(tally, f"dpbn-bulk(7): {'; '.join(line for line, _ in commands)}", not wrong, told, timed=is_timed)
 
     def packages(self, tally):
         """Each package is what a serial build makes of its port."""
@@ -817,17 +833,13 @@ def ten_steps(tally):
                 server.end()
 
 
+def run_without_programs(tally):
+    for one in (good_file, bad_files, words, pages, ends, spans, copies):
+        one(tally)
+    for one in (other_runs, lost_logs, alone, services):
+        tally.case(one)
+
+
 def run(tally):
-    good_file(tally)
-    bad_files(tally)
-    words(tally)
-    pages(tally)
-    ends(tally)
-    spans(tally)
-    copies(tally)
-    three_hosts(tally)
-    tally.run("other runs", other_runs)
-    tally.run("lost logs", lost_logs)
-    tally.run("a host alone", alone)
-    tally.run("services", services)
-    tally.run("ten steps", ten_steps)
+    tally.case(three_hosts)
+    tally.case(ten_steps)

@@ -1,6 +1,7 @@
 """tools/build-jobs when something goes wrong next to the builds: a lock that can't be looked at, lines that nobody reads, builds that can't be
-ended or that close what they were given, what is over when a signal comes, a log that is broken."""
+ended or that close what they were given. Also what is over when a signal comes, and a log that is broken."""
 import contextlib
+import glob
 import os
 import re
 import signal
@@ -11,27 +12,42 @@ from topics import packages
 from topics.played import BUILD, LIMIT, MAKE, SLOW, Driver, add, end_builds, has_text, is_alive, laid, node_alone, read, until
 from topics.tally import TOP
 
+# how long a work folder has to be out of sight before its driver ends, in seconds
+GONE = 2
+
 
 def lock_out_of_sight(tally):
     """The lock can't be looked at for a moment, as on a file system that doesn't answer: the driver goes on, and so do its builds."""
+    for _ in range(20):
+        if for_a_moment(tally):
+            return
+    add(tally, "a lock that can't be looked at for a moment", False, "this machine is too busy")
+
+
+def for_a_moment(tally):
+    """Takes the lock away for a moment. Returns whether it was one: on a busy machine it may be so long that the driver ends."""
     with laid(SLOW) as (node, driver):
         name = node.post("a/b")
         until(lambda: has_text(f"{node.folder}/pid"))
+        began = time.monotonic()
         os.rename(node.work, f"{node.folder}/elsewhere")
         os.symlink("work", node.work)
         time.sleep(0.7)
         os.unlink(node.work)
         os.rename(f"{node.folder}/elsewhere", node.work)
+        if time.monotonic() - began > 0.75 * GONE:
+            return False
         time.sleep(0.2)
         add(tally, "a lock that can't be looked at", driver.process.poll() is None and is_alive(node.folder, "pid"), driver.lines())
         with open(f"{node.folder}/go", "w"):
             made = node.take(name)
         add(tally, "the same, what was built meanwhile", bool(made) and driver.begun() == 1, driver.lines())
+        return True
 
 
-# a long one, which ends while a large one is hashed: 256 MiB of zeros that take no room
+# a long one, which ends while a large one is hashed: a GiB of zeros that take no room
 OVER = ('d="$OUT/$(echo $PKGPATH | tr / :)"; mkdir "$d"; echo > "$TOP/began.$(basename $PKGPATH)"; until [ -e "$TOP/go" ]; do sleep 0.05; done; '
-        'echo made > "$d/f"; [ $PKGPATH != a/big ] || dd if=/dev/null of="$d/core" bs=1 seek=268435456 2>/dev/null; echo > "$TOP/over.$(basename $PKGPATH)"')
+        'echo made > "$d/f"; [ $PKGPATH != a/big ] || dd if=/dev/null of="$d/core" bs=1 seek=1073741824 2>/dev/null; echo > "$TOP/over.$(basename $PKGPATH)"')
 
 
 def what_is_over_at_a_signal(tally):
@@ -41,17 +57,29 @@ def what_is_over_at_a_signal(tally):
         until(lambda: all(has_text(f"{node.folder}/began.{word}") for word in ("long", "big")))
         with open(f"{node.folder}/go", "w"):
             until(lambda: all(has_text(f"{node.folder}/over.{word}") for word in ("long", "big")))
+        # the last command of a script has ended, and now the script does
+        until(lambda: all(map(has_status, glob.glob(f"{glob.escape(node.work)}/build/*/status"))))
         began = time.monotonic()
         status = driver.end()
         took = time.monotonic() - began
         long = os.path.exists(f"{node.work}/done/{names[0]}")
-        add(tally, "a signal, what ended before it", (status, long) == (143, True), status, long, driver.lines())
-        add(tally, "a signal while large files are hashed", took < 10, took, driver.lines())
+        add(tally, "a signal, and files that are hashed", status == 143, status, driver.lines())
+        # a driver that ends takes three seconds for that, at most
+        add(tally, "a signal, what ended before it", long, driver.lines(), timed=True)
+        add(tally, "a signal while large files are hashed", took < 10, took, driver.lines(), timed=True)
         again = Driver(node, OVER, "-j", "2", "--digests", "1000000")
         made = [bool(node.take(name)) for name in names]
         begun = driver.begun() + again.begun()
         add(tally, "the same, nothing is built again", made == [True, True] and begun == 2, made, driver.lines(), again.lines())
         again.end()
+
+
+def has_status(path):
+    """Whether a supervisor wrote how its build ended into the file, which is blank before; or the build is through, and the file is gone."""
+    try:
+        return not read(path).startswith(" ")
+    except FileNotFoundError:
+        return True
 
 
 def lines_that_nobody_reads(tally):
@@ -63,18 +91,19 @@ def lines_that_nobody_reads(tally):
             os.write(writes, b"x" * 4096)
     os.set_blocking(writes, True)
     with laid(MAKE, out=writes) as (node, driver):
-        made = [node.take(node.post(f"a/p{number}"), 20) for number in range(3)]
+        made = [node.take(node.post(f"a/p{number}")) for number in range(3)]
         began = time.monotonic()
         status = driver.end()
         took = time.monotonic() - began
-        add(tally, "lines that nobody reads", all(made) and status == 143 and took < 10, made, status, took)
+        add(tally, "lines that nobody reads", all(made) and status == 143, made, status)
+        add(tally, "lines that nobody reads, how soon the driver ends", took < 10, took, timed=True)
     os.close(reads)
     os.close(writes)
 
 
 def a_large_answer(tally):
     """While a large file is hashed other jobs begin at once, and the store has them without a copy."""
-    script = 'd="$OUT/$(echo $PKGPATH | tr / :)"; mkdir "$d"; if [ $PKGPATH = a/big ]; then dd if=/dev/null of="$d/core" bs=1 seek=536870912 2>/dev/null; fi; echo > "$TOP/over.$(basename $PKGPATH)"'
+    script = 'd="$OUT/$(echo $PKGPATH | tr / :)"; mkdir "$d"; if [ $PKGPATH = a/big ]; then dd if=/dev/null of="$d/core" bs=1 seek=2147483648 2>/dev/null; fi; echo > "$TOP/over.$(basename $PKGPATH)"'
     with laid(script, "-j", "2", "--digests", "1000000") as (node, driver):
         big = node.post("a/big")
         until(lambda: has_text(f"{node.folder}/over.big"))
@@ -83,7 +112,8 @@ def a_large_answer(tally):
         other = node.post("a/other")
         is_begun = until(lambda: has_text(f"{node.folder}/over.other"))
         took, is_hashed = time.monotonic() - began, not os.path.exists(f"{node.work}/done/{big}")
-        add(tally, "a job that is posted while another's files are hashed", is_begun and is_hashed and took < 3, took, is_hashed, driver.lines())
+        add(tally, "a job that is posted next to another's large file", is_begun, driver.lines())
+        add(tally, "a job that is posted while another's files are hashed", is_hashed and took < 3, took, is_hashed, driver.lines(), timed=True)
         made = bool(node.take(big)), bool(node.take(other))
         room = sum(os.stat(f"{node.work}/store/{name}").st_blocks for name in os.listdir(f"{node.work}/store")) * 512
         add(tally, "a sparse file", made == (True, True) and room < 100_000_000, made, room)
@@ -140,8 +170,10 @@ def builds_that_ignore_a_signal(tally):
         first = time.monotonic() - began
         is_over = until(lambda: sum(line.endswith(": its job was taken away") for line in driver.lines()) == 8)
         took = time.monotonic() - began
-        add(tally, "eight builds that ignore SIGTERM", is_over and took < 8, took, driver.lines())
-        add(tally, "a job that is posted meanwhile", bool(made) and first < took, first, took)
+        add(tally, "eight builds that ignore SIGTERM", is_over, driver.lines())
+        add(tally, "eight builds that ignore SIGTERM, how soon they end", took < 8, took, driver.lines(), timed=True)
+        add(tally, "a job that is posted meanwhile", bool(made), driver.lines())
+        add(tally, "a job that is posted meanwhile, how soon it is built", first < took, first, took, timed=True)
 
 
 def places_after_a_kill(tally):
@@ -188,14 +220,16 @@ def a_note_of_any_length(tally):
 
 
 def deep_folders(tally):
-    """make-builds of folders in folders, more than a path may name: refused with a line."""
-    with node_alone() as node:
-        subprocess.run(["python3", "-c", "import os\nos.makedirs('a:b')\nos.chdir('a:b')\nfor _ in range(1100):\n os.mkdir('x' * 9)\n os.chdir('x' * 9)"],
-                       cwd=node.folder, check=True)
-        done = subprocess.run([f"{TOP}/tools/make-builds", node.folder], capture_output=True, text=True, timeout=LIMIT)
-        right = done.returncode == 1 and done.stdout == "" and re.fullmatch("make-builds: .*\n", done.stderr)
-        tally.add("make-builds of folders that are too deep", "" if right else f"{done.stderr:.400}, status {done.returncode}")
-        subprocess.run(["rm", "-rf", f"{node.folder}/a:b"], check=True)
+    """make-builds of folders in folders, deeper than Python calls may nest and more than a path may name: refused with a line."""
+    for letters in (1, 9):
+        with node_alone() as node:
+            subprocess.run(["python3", "-c", "import os\nos.makedirs('a:b')\nos.chdir('a:b')\n"
+                            f"for _ in range(1100):\n os.mkdir('x' * {letters})\n os.chdir('x' * {letters})\nopen('file', 'w').write('x')"],
+                           cwd=node.folder, check=True)
+            done = subprocess.run([f"{TOP}/tools/make-builds", node.folder], capture_output=True, text=True, timeout=LIMIT)
+            right = done.returncode == 1 and done.stdout == "" and re.fullmatch("make-builds: .*\n", done.stderr)
+            tally.add(f"make-builds of folders that are too deep, names of {letters} letters", "" if right else f"{done.stderr:.400}, status {done.returncode}")
+            subprocess.run(["rm", "-rf", f"{node.folder}/a:b"], check=True)
 
 
 def thresholds(tally):
@@ -217,7 +251,7 @@ def supervisors_that_are_killed(tally):
         until(lambda: has_text(f"{node.folder}/pid"))
         os.kill(int(read(f"{node.folder}/supervisor")), signal.SIGKILL)
         told = driver.tells("~ a/b is given back: its supervisor was killed; .*")
-        gone = until(lambda: not is_alive(node.folder, "pid"), 10)
+        gone = until(lambda: not is_alive(node.folder, "pid")) and until(lambda: not os.listdir(f"{node.work}/begun"))
         left = os.listdir(f"{node.work}/failed"), os.listdir(f"{node.work}/begun"), os.listdir(f"{node.work}/jobs")
         add(tally, "a supervisor that is killed", told and gone and left == ([], [], [name]), driver.lines(), left)
 
@@ -255,18 +289,27 @@ def stops(tally):
         add(tally, "a host that is stopped", told and bool(made) and is_over and driver.begun() == 1, driver.lines())
         os.unlink(f"{node.work}/stop")
         add(tally, "the same, started again", bool(node.take(other)), driver.lines())
+    with laid(BUILD) as (node, driver):
+        node.take(node.post("a/b"))
+        with open(f"{node.work}/away", "w") as file:
+            file.write("no power\n")
+        other = node.post("c/d")
+        time.sleep(1)
+        count = driver.begun()
+        os.unlink(f"{node.work}/away")
+        add(tally, "a host that is away", count == 1 and bool(node.take(other)), count, driver.lines())
 
 
 def run_first(tally):
     for one in (lock_out_of_sight, what_is_over_at_a_signal, a_large_answer, builds_that_ignore_a_signal, deep_folders, thresholds):
-        one(tally)
+        tally.case(one)
 
 
 def run_second(tally):
     for one in (lines_that_nobody_reads, a_command_that_closes_its_files, places_after_a_kill, many_packages, supervisors_that_are_killed, stops):
-        one(tally)
+        tally.case(one)
 
 
 def run_third(tally):
     for one in (a_build_that_cannot_be_ended, a_note_of_any_length, locks_that_are_not_there):
-        one(tally)
+        tally.case(one)

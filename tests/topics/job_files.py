@@ -1,9 +1,10 @@
-"""The large files of tools/build-jobs: from which host they are fetched and when, what comes of wrong ones, and copies before a hand-in."""
+"""The large files of tools/build-jobs: from which host they are fetched and when, what happens to wrong ones, and copies before a hand-in."""
 import os
 import re
 import signal
 import time
 
+from topics import processor
 from topics.played import MAKE, Driver, add, digest_text, has_text, laid, large_file, node_alone, read, until
 
 # prints who is asked, and gets the file from a folder of the test if it is there
@@ -25,7 +26,7 @@ def asked(node):
 
 def a_dead_host(tally):
     """Eight files of a host that doesn't answer are needed: a file of one that is up comes at once all the same."""
-    fetch = 'echo $HOST >> "$TOP/asked"; case $HOST in 0) sleep 20; exit 1;; esac; cp "$TOP/files/$SHA256" "$TARGET"'
+    fetch = 'echo $HOST >> "$TOP/asked"; case $HOST in 0) sleep 1000; exit 1;; esac; cp "$TOP/files/$SHA256" "$TARGET"'
     with node_alone() as node:
         dead = [f"a/d{number}" for number in range(8)]
         for path in dead:
@@ -39,7 +40,8 @@ def a_dead_host(tally):
         began = time.monotonic()
         made = node.take(node.post("z/needs-up", built=["b/up"]))
         took = time.monotonic() - began
-        add(tally, "a file of a host that is up", bool(made) and took < 5, took, driver.lines())
+        add(tally, "a file of a host that is up", bool(made), driver.lines())
+        add(tally, "a file of a host that is up, how soon it comes", took < 5, took, timed=True)
         count = sum(line == "0" for line in read(f"{node.folder}/asked").split())
         add(tally, "a host that doesn't answer, how many are asked of it", count <= 2, count)
         driver.end()
@@ -90,8 +92,9 @@ def odd_targets(tally):
             status = driver.end()
             took = time.monotonic() - began
             left = [name for name in os.listdir(f"{node.work}/store") if name != "wrong"] if os.path.isdir(f"{node.work}/store") else []
-            right = told and bool(other) and status == 143 and took < 10 and not os.path.exists(f"{node.work}/done/{waits}") and left == []
-            add(tally, f"a fetch that leaves {what}", right, told, status, took, left, driver.lines())
+            right = told and bool(other) and status == 143 and not os.path.exists(f"{node.work}/done/{waits}") and left == []
+            add(tally, f"a fetch that leaves {what}", right, told, status, left, driver.lines())
+            add(tally, f"a fetch that leaves {what}, how soon the driver ends", took < 10, took, timed=True)
             if what == "nothing":
                 add(tally, "what a fetch prints", read(f"{node.work}/logs/fetch.log").startswith("why\n"), read(f"{node.work}/logs/fetch.log"))
 
@@ -112,7 +115,7 @@ def what_fetches_leave(tally):
         driver = Driver(node, MAKE, "--fetch", 'echo $$ > "$TOP/fetch"; sleep 1000; true')
         until(lambda: has_text(f"{node.folder}/fetch"))
         driver.end(signal.SIGKILL)
-        add(tally, "a fetch of a driver that is killed", until(lambda: not is_running(read(f"{node.folder}/fetch")), 15), driver.lines())
+        add(tally, "a fetch of a driver that is killed", until(lambda: not is_running(read(f"{node.folder}/fetch"))), driver.lines())
 
 
 def is_running(number):
@@ -140,20 +143,13 @@ def many_that_wait(tally):
         for number in range(8):
             node.post(f"z/z{number}", built=sorted([*paths, "b/lacks"]))
         driver = Driver(node, MAKE, "-j", "8", "--fetch", "sleep 1000")
-        until(lambda: os.path.isdir(f"{node.work}/logs") and os.path.exists(f"{node.work}/logs/fetch.log"))
-        time.sleep(3)
-        used, began = processor_time(driver.process.pid), time.monotonic()
-        time.sleep(5)
-        share = (processor_time(driver.process.pid) - used) / (time.monotonic() - began)
-        # wanted is 2 %; a machine with more to do counts more
-        add(tally, "eight jobs that wait for files, their processor time", share < 0.04 and driver.begun() == 0, share, driver.lines())
+        until(lambda: os.path.exists(f"{node.work}/logs/fetch.log"))
+        share = processor.least_share(driver.process.pid, 0.04)
+        # usually 1.5 %
+        add(tally, "eight jobs that wait for files, their processor time", share < 0.04, share, driver.lines(), timed=True)
+        add(tally, "eight jobs that wait for files", driver.begun() == 0, driver.lines())
         print(f"tests/run: build-jobs, eight jobs that wait for a file, with 1,000 packages: {100 * share:.1f} % of a processor", flush=True)
         driver.end()
-
-
-def processor_time(number):
-    fields = read(f"/proc/{number}/stat").rpartition(")")[2].split()
-    return (int(fields[11]) + int(fields[12])) / os.sysconf("SC_CLK_TCK")
 
 
 def own_signature(tally):
@@ -206,9 +202,9 @@ def copies(tally):
 
 def run_first(tally):
     for one in (a_dead_host, another_host, before_a_place_is_free, what_fetches_leave, own_signature):
-        one(tally)
+        tally.case(one)
 
 
 def run_second(tally):
     for one in (odd_targets, another_file_system, copies):
-        one(tally)
+        tally.case(one)

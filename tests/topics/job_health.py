@@ -7,7 +7,7 @@ import subprocess
 import sys
 import time
 
-from topics.played import LIMIT, MAKE, add, end_builds, has_text, node_alone, read, until
+from topics.played import LIMIT, MAKE, add, end_builds, has_text, lines_of, node_alone, read, until
 from topics.tally import TOP
 
 # build-jobs with minutes of this many seconds
@@ -29,7 +29,7 @@ class Driver:
                                             stdin=subprocess.DEVNULL, stdout=out, stderr=out, env={**os.environ, "TOP": node.folder})
 
     def lines(self):
-        return [re.sub("^[0-9-]{10} [0-9:]{8} ", "", line) for line in read(self.out).splitlines()]
+        return lines_of(self.out)
 
     def tells(self, line, seconds=LIMIT):
         return until(lambda: any(re.fullmatch(line, told) for told in self.lines()), seconds)
@@ -46,16 +46,19 @@ def given_back(tally):
     """A build that ends with 75, or by a signal, isn't marked, and is begun again later."""
     for what, end in (("75", "exit 75"), ("a signal", "kill -KILL $$")):
         with node_alone() as node:
-            driver = Driver(node, f'[ -e "$TOP/mended" ] || {{ echo > "$TOP/tried"; {end}; }}; ' + MAKE, minute=2.0)
+            # when it is tried for the first time and for the second one is shown by files, since this process may be late
+            note = 'if [ ! -e "$TOP/tried" ]; then echo > "$TOP/tried"; elif [ ! -e "$TOP/again" ]; then echo > "$TOP/again"; fi; '
+            driver = Driver(node, f'{note}[ -e "$TOP/mended" ] || {{ {end}; }}; ' + MAKE, minute=2.0)
             name = node.post("a/b")
             why = "status 75" if what == "75" else "signal 9"
             told = driver.tells(f"~ a/b is given back: {why}; it is tried here again after 0 min")
-            began = time.monotonic()
-            left = os.listdir(f"{node.work}/failed"), os.listdir(f"{node.work}/jobs"), until(lambda: not os.listdir(f"{node.work}/begun"), 5)
+            tried = os.path.getmtime(f"{node.folder}/tried")
+            left = os.listdir(f"{node.work}/failed"), os.listdir(f"{node.work}/jobs"), until(lambda: not os.listdir(f"{node.work}/begun"))
+            is_again = until(lambda: os.path.exists(f"{node.folder}/again"))
+            waited = os.path.getmtime(f"{node.folder}/again") - tried if is_again else 0
             with open(f"{node.folder}/mended", "w"):
                 made = node.take(name)
-            took = time.monotonic() - began
-            add(tally, f"a build that ends with {what}", told and left == ([], [name], True) and bool(made) and took > 1, told, left, took, driver.lines())
+            add(tally, f"a build that ends with {what}", told and left == ([], [name], True) and bool(made) and waited > 1.5, told, left, waited, driver.lines())
             driver.end()
 
 
@@ -73,7 +76,7 @@ def again_and_again(tally):
     with node_alone() as node:
         driver = Driver(node, "exit 75", minute=0.1)
         name = node.post("a/bad")
-        tried = until(lambda: driver.begun("a/bad") >= 7, 30)
+        tried = until(lambda: driver.begun("a/bad") >= 7)
         add(tally, "seven of one unit, and nothing else succeeds", tried and not os.listdir(f"{node.work}/failed"), driver.lines(), name)
         driver.end()
 
@@ -86,13 +89,15 @@ def away(tally):
         names = [node.post(f"a/p{number}") for number in range(6)]
         is_away = until(lambda: has_text(f"{node.work}/away"))
         # what was about to begin has begun, and ended
+        began = time.monotonic()
         time.sleep(1)
         told = [line for line in driver.lines() if line.startswith("~ this host begins nothing until its --ready command ends with 0: ")]
         count = driver.begun()
         add(tally, "a host that can't build", is_away and len(told) == 1 and 3 <= count <= 5 and os.listdir(f"{node.work}/failed") == [], told, count, driver.lines())
         time.sleep(7)
-        asked = read(f"{node.folder}/asked").count("\n")
-        add(tally, "the same, how often it is asked", 1 <= asked <= 4 and driver.begun() == count and has_text(f"{node.work}/away"), asked, driver.lines())
+        until(lambda: os.path.exists(f"{node.folder}/asked"))
+        asked, most = read(f"{node.folder}/asked").count("\n"), (time.monotonic() - began) / 3 + 2
+        add(tally, "the same, how often it is asked", 1 <= asked <= most and driver.begun() == count and has_text(f"{node.work}/away"), asked, driver.lines())
         with open(f"{node.folder}/up", "w"):
             made = [bool(node.take(name)) for name in names]
         add(tally, "the same, once it can", all(made) and not os.path.exists(f"{node.work}/away"), made, driver.lines())
@@ -108,9 +113,9 @@ def away_without_a_command(tally):
         gone = until(lambda: not os.path.exists(f"{node.work}/away"))
         names = [node.post(f"a/p{number}") for number in range(4)]
         is_away = until(lambda: has_text(f"{node.work}/away"))
-        time.sleep(0.3)
-        first = driver.begun()
         back = driver.tells("~ this host begins builds again, .*")
+        before = "\n".join(driver.lines()).partition("~ this host begins builds again, ")[0]
+        first = before.count("> a/p")
         again = until(lambda: has_text(f"{node.work}/away") and driver.begun() > first)
         with open(f"{node.folder}/up", "w"):
             made = [bool(node.take(name)) for name in names]
@@ -122,4 +127,4 @@ def away_without_a_command(tally):
 
 def run(tally):
     for one in (given_back, again_and_again, away, away_without_a_command):
-        one(tally)
+        tally.case(one)

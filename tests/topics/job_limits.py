@@ -1,6 +1,8 @@
 """The limits of tools/build-jobs: of time, of silence, of what is printed and made, of free disk; and the logs and work trees that are kept."""
+import fcntl
 import os
 import re
+import signal
 import time
 
 from topics import packages
@@ -11,7 +13,7 @@ def fails(tally, what, why, script, *words):
     """A build that fails with this reason, and leaves nothing running."""
     with laid('echo $$ > "$TOP/pid"; ' + script, *words) as (node, driver):
         told = node.failed(node.post("a/b"))
-        right = bool(told) and re.fullmatch(f"a/b: {why}\n.*/logs/failed/a:b.log\n", told) and until(lambda: not is_alive(node.folder, "pid"), 10)
+        right = bool(told) and re.fullmatch(f"a/b: {why}\n.*/logs/failed/a:b.log\n", told) and until(lambda: not is_alive(node.folder, "pid"))
         add(tally, f"a build that {what}", right, told, driver.lines())
         return read(f"{node.work}/logs/failed/a:b.log") if right else ""
 
@@ -22,8 +24,11 @@ def limits(tally):
     log = fails(tally, "prints too much", "it printed more than 100000 bytes", "yes 'warning: something'; true", "--log-bytes", "100000")
     add(tally, "a log that is too long", 100_000 <= len(log) < 102_000 and log.endswith("\n## the log is cut here\n"), len(log))
     fails(tally, "makes too much", "it made 5000 bytes, and may make 4999", 'mkdir "$OUT/a:b" && head -c 5000 /dev/zero > "$OUT/a:b/x"', "--out-bytes", "4999")
-    with laid('for n in 1 2 3 4 5 6; do echo $n; sleep 0.5; done; ' + MAKE, "--silent", "2", "--limit", "50", "--log-bytes", "1000", "--out-bytes", "2") as (node, driver):
-        add(tally, "a build within its limits", bool(node.take(node.post("a/b"))), driver.lines())
+    with laid('for n in 1 2 3 4 5 6 7 8 9 0; do echo $n; sleep 1; done; ' + MAKE, "--silent", "8", "--limit", "50", "--log-bytes", "1000", "--out-bytes", "2") as (node, driver):
+        name = node.post("a/b")
+        until(lambda: any(os.path.exists(f"{node.work}/{part}/{name}") for part in ("done", "failed")))
+        # it prints each second, if it gets a processor
+        add(tally, "a build within its limits", bool(node.take(name, 1)), driver.lines(), timed=True)
 
 
 def limits_by_name(tally):
@@ -41,14 +46,19 @@ def limits_by_name(tally):
         told = driver.tells(re.escape(f"? it goes on in a while: {file}: line 2 isn't `PATH WORD NUMBER`, with a word of limit, silent, log-bytes, out-bytes, free"))
         with open(file, "w", encoding="ascii") as out:
             out.write("c/d limit 1000\n")
-        time.sleep(6)
-        os.unlink(f"{node.work}/failed/{names[3]}")
-        add(tally, "limits that are changed", told and bool(node.take(names[3])), driver.lines())
+        add(tally, "limits that are changed", told and until(lambda: is_built(node, names[3])), driver.lines())
         driver.end()
         with open(file, "w", encoding="ascii") as out:
             out.write("chromium limit 3\n")
         said = packages.tool("build-jobs", "--limits", file, node.work, node.log, "--", "true")
         add(tally, "limits of what is no path", said == (b"", f"build-jobs: {file}: line 1 names no package path\n".encode(), 1), said)
+
+
+def is_built(node, name):
+    """Whether the job is built. If it failed it is tried again."""
+    if os.path.exists(f"{node.work}/failed/{name}"):
+        os.unlink(f"{node.work}/failed/{name}")
+    return os.path.exists(f"{node.work}/done/{name}")
 
 
 def free_disk(tally):
@@ -62,24 +72,27 @@ def free_disk(tally):
         add(tally, "a disk with room", bool(node.take(node.post("a/b"))), driver.lines())
 
 
+def write_try(node, number):
+    with open(f"{node.folder}/next", "w", encoding="ascii") as file:
+        file.write(f"{number}\n")
+    os.rename(f"{node.folder}/next", f"{node.folder}/try")
+
+
 def logs(tally):
     """Each try has a log; the last ones are kept, those of tries that failed apart. The work tree of the last one that failed is kept, too."""
     with node_alone() as node:
         script = 'echo try $(cat "$TOP/try"); echo > tree; [ $(cat "$TOP/try") -gt 4 ] || exit 1; ' + MAKE
         driver = Driver(node, script, "--keep-logs", "3", "--keep-failed", f"{node.folder}/trees")
+        write_try(node, 1)
+        name = node.post("a/b")
         for number in range(1, 7):
-            with open(f"{node.folder}/try", "w", encoding="ascii") as file:
-                file.write(f"{number}\n")
-            name = node.post("a/b")
-            if number < 5:
-                node.failed(name)
-                os.unlink(f"{node.work}/failed/{name}")
-            else:
-                until(lambda: os.path.exists(f"{node.work}/done/{name}"))
-                until(lambda: not os.listdir(f"{node.work}/build"))
-                os.unlink(f"{node.work}/done/{name}")
+            part = "failed" if number < 5 else "done"
+            until(lambda: os.path.exists(f"{node.work}/{part}/{name}") and not os.listdir(f"{node.work}/build"))
             if number == 4:
                 kept = sorted(os.listdir(f"{node.folder}/trees/a:b")), os.listdir(f"{node.folder}/trees/a:b/obj")
+            # the next try begins when that is gone
+            write_try(node, number + 1)
+            os.unlink(f"{node.work}/{part}/{name}")
         # the next try may have begun already
         os.unlink(f"{node.work}/jobs/{name}")
         until(lambda: not os.listdir(f"{node.work}/build"))
@@ -119,7 +132,8 @@ def graces(tally):
         status = driver.end()
         took = time.monotonic() - began
         cleaned = [number for number in range(4) if has_text(f"{node.folder}/cleaned.{number}")]
-        add(tally, "what builds clean up, and their places", status == 143 and cleaned == [0, 1, 2, 3] and took < 12, status, cleaned, took, driver.lines())
+        add(tally, "what builds clean up, and their places", status == 143 and cleaned == [0, 1, 2, 3], status, cleaned, driver.lines())
+        add(tally, "what builds clean up, at the same time", took < 12, took, timed=True)
 
 
 def begun(tally):
@@ -136,11 +150,40 @@ def begun(tally):
         add(tally, "that a job has begun, and failed", until(lambda: os.listdir(f"{node.work}/begun") == []), driver.lines())
 
 
+def is_locked(path):
+    """Whether somebody holds the file's lock, as a node looks."""
+    with open(path, "rb") as file:
+        try:
+            fcntl.flock(file, fcntl.LOCK_SH | fcntl.LOCK_NB)
+        except BlockingIOError:
+            return True
+    return False
+
+
+def locks_of_builds(tally):
+    """The file of a job that has begun is locked as long as its build runs, also without its driver. The command doesn't have that file."""
+    script = 'for n in 3 4 5 6 7 8 9; do (: >&$n) 2> /dev/null && echo $n; done > "$TOP/open"; ' + SLOW
+    with laid(script) as (node, driver):
+        name = node.post("a/b")
+        until(lambda: has_text(f"{node.folder}/pid"))
+        begun = f"{node.work}/begun/{name}"
+        driver.end(signal.SIGKILL)
+        runs = is_locked(begun)
+        with open(f"{node.folder}/go", "w"):
+            is_free = until(lambda: not is_locked(begun))
+        again = Driver(node, script)
+        made = node.take(name)
+        is_gone = until(lambda: os.listdir(f"{node.work}/begun") == [])
+        add(tally, "the lock of a job that has begun", runs and is_free and bool(made) and is_gone, runs, is_free, made, again.lines())
+        add(tally, "the same, what its command has open", read(f"{node.folder}/open") == "", read(f"{node.folder}/open"))
+        again.end(signal.SIGKILL)
+
+
 def run_first(tally):
-    for one in (limits, free_disk, times, begun):
-        one(tally)
+    for one in (limits, free_disk, times, begun, locks_of_builds):
+        tally.case(one)
 
 
 def run_second(tally):
     for one in (limits_by_name, logs, graces):
-        one(tally)
+        tally.case(one)

@@ -1,5 +1,6 @@
 """What a build under tools/build-jobs may say of itself, and what is compared with that: names, and what was installed. And
 examples/build-port with stand-ins for the tools of a ports tree (tests/ports)."""
+import contextlib
 import io
 import os
 import re
@@ -34,7 +35,7 @@ def names(tally):
             os.unlink(f"{node.work}/jobs/{name}")
             until(lambda: not os.listdir(f"{node.work}/build"))
             for part in ("done", "failed"):
-                if os.path.exists(f"{node.work}/{part}/{name}"):
+                with contextlib.suppress(FileNotFoundError):
                     os.unlink(f"{node.work}/{part}/{name}")
         add(tally, "the listed names", read(f"{node.folder}/names") == "devel/gmake gmake-4.4.1\n", read(f"{node.folder}/names"))
         node.post("x/y")
@@ -44,7 +45,9 @@ def names(tally):
 
 def places(tally):
     """Builds that run at a time have places from 0 on, and a place is given again."""
-    script = 'mkdir "$TOP/place.$SLOT" && sleep 0.3; rmdir "$TOP/place.$SLOT" || exit 1; echo $SLOT >> "$TOP/places"; ' + MAKE
+    # the first ones wait until there are three
+    script = ('mkdir "$TOP/place.$SLOT" || exit 1; until [ -e "$TOP/three" ]; do set -- "$TOP"/place.*; [ $# -lt 3 ] || echo > "$TOP/three"; sleep 0.05; done; '
+              'rmdir "$TOP/place.$SLOT" || exit 1; echo $SLOT >> "$TOP/places"; ' + MAKE)
     with laid(script, "-j", "3") as (node, driver):
         made = [node.post(f"a/p{number}") for number in range(9)]
         right = all([bool(node.take(name)) for name in made]) and set(read(f"{node.folder}/places").split()) == {"0", "1", "2"}
@@ -55,7 +58,7 @@ def seen(tally):
     """What a build saw installed is compared with DEPS: one package more, one of other bytes, one less, each fails with its name."""
     text = b"bytes of a"
     digest = packages.digest(text)
-    cases = (("nothing", None, None, ""), ("just DEPS", "a-1\nb-1\n", f"b-1\na-1 {digest}\n", ""),
+    cases = (("nothing", None, None, ""), ("only DEPS", "a-1\nb-1\n", f"b-1\na-1 {digest}\n", ""),
              ("one more before", "a-1\nb-1\nc-1\n", "a-1\nb-1\n", "c-1 was installed before the build, and isn't in DEPS"),
              ("one more after", "a-1\nb-1\n", "a-1\nb-1\nc-1\n", "c-1 was installed after the build, and isn't in DEPS"),
              ("other bytes", f"a-1 {'0' * 64}\nb-1\n", None, "a-1 was installed before the build with other bytes than in DEPS"),
@@ -82,7 +85,7 @@ def seen(tally):
 # ---- the example
 
 class Ports:
-    """A ports tree for the stand-ins, in the root of each place."""
+    """A ports tree for the substitutes, in the root of each place."""
 
     def __init__(self, node, places=1):
         self.node, self.roots = node, [f"{node.folder}/roots/{place}" for place in range(places)]
@@ -105,7 +108,7 @@ class Ports:
 
 
 def packed(path, name, text):
-    """A package as the stand-in for make packs one."""
+    """A package as the substitute for make packs one."""
     out = io.BytesIO()
     with tarfile.open(fileobj=out, mode="w:gz") as archive:
         for file, data in (("+CONTENTS", f"@name {name}\n@comment pkgpath={path} ftp=yes\n".encode()), ("built", text)):
@@ -128,7 +131,7 @@ def example_driver(node, path, *words):
 
 
 def example(tally):
-    """The example builds ports one on the other, on just what is in DEPS, whatever an earlier build left."""
+    """The example builds ports one on the other, on exactly what is in DEPS, whatever an earlier build left."""
     with node_alone() as node:
         ports = Ports(node)
         ports.add("devel/a", {"devel/a,-main": "a-1", "devel/a,-docs": "a-docs-1"})
@@ -143,7 +146,7 @@ def example(tally):
         path = listing(node, {"devel/a,-main": "a-1", "devel/a,-docs": "a-docs-1", "devel/b": "b-1"})
         driver = example_driver(node, path)
         name = node.post("devel/a", ("devel/a,-docs", "devel/a,-main"))
-        if not until(lambda: os.path.exists(f"{node.work}/done/{name}"), 30):
+        if not until(lambda: os.path.exists(f"{node.work}/done/{name}")):
             add(tally, "the example", False, driver.lines(), [read(f"{node.work}/logs/{part}") for part in ("failed/devel:a.log", "devel:a.log") if os.path.exists(f"{node.work}/logs/{part}")])
             driver.end()
             return
@@ -170,7 +173,7 @@ def example_failures(tally):
         driver = example_driver(node, path)
 
         def fails(what, unit, why, last=""):
-            marked = node.failed(node.post(unit), 30) or ""
+            marked = node.failed(node.post(unit)) or ""
             log = read(f"{node.work}/logs/failed/{unit.replace('/', ':')}.log") if marked else ""
             add(tally, f"the example, {what}", marked.startswith(f"{unit}: {why}\n") and last in log, marked, log[-300:], driver.lines())
 
@@ -180,18 +183,18 @@ def example_failures(tally):
         with open(f"{ports.roots[0]}/more", "w", encoding="ascii") as file:
             file.write("more-1")
         node.hold("x/a", {"x/a": [("a-1.tgz", packed("x/a", "a-1", b"x"))]}, names={"x/a": "a-1"})
-        marked = node.failed(node.post("devel/x", built=["x/a"]), 30) or ""
+        marked = node.failed(node.post("devel/x", built=["x/a"])) or ""
         add(tally, "the example, one package more", marked.startswith("devel/x: more-1 was installed before the build, and isn't in DEPS\n"), marked, driver.lines())
         ports.installed("stays-1", "it sticks")
         node.post("devel/y")
-        told = driver.tells("~ devel/y is given back: status 75; .*", 30)
+        told = driver.tells("~ devel/y is given back: status 75; .*")
         log = read(f"{node.work}/logs/devel:y.log")
         add(tally, "the example, a package that can't be removed", told and "these packages can't be removed: stays-1" in log, log, driver.lines())
         driver.end()
 
 
 def example_in_one_root(tally):
-    """Two builds at a time have a root each; a root that somebody else uses is left alone."""
+    """Two builds at a time have a root each; a root that somebody else uses stays as it is."""
     with node_alone() as node:
         ports = Ports(node, 2)
         for word in ("p", "q", "r"):
@@ -200,8 +203,8 @@ def example_in_one_root(tally):
         os.symlink(str(os.getpid()), f"{ports.roots[1]}/in-use")
         driver = example_driver(node, path, "-j", "2")
         posted = [node.post(f"devel/{word}") for word in ("p", "q", "r")]
-        told = driver.tells("~ devel/[pqr] is given back: status 75; .*", 30)
-        made = until(lambda: len(os.listdir(f"{node.work}/done")) >= 1, 30)
+        told = driver.tells("~ devel/[pqr] is given back: status 75; .*")
+        made = until(lambda: len(os.listdir(f"{node.work}/done")) >= 1)
         logs = "".join(read(f"{node.work}/logs/{name}") for name in os.listdir(f"{node.work}/logs") if name.endswith(".log"))
         add(tally, "the example, two in one root", told and made and f"{ports.roots[1]} is in use by process {os.getpid()}" in logs and len(posted) == 3, driver.lines())
         driver.end()
@@ -220,4 +223,4 @@ def page(tally):
 
 def run(tally):
     for one in (names, places, seen, example, example_failures, example_in_one_root, page):
-        one(tally)
+        tally.case(one)

@@ -40,7 +40,7 @@ class Bulk:
 
     def post(self, path):
         name = self.node.post(path, built=sorted(TREE[path]))
-        until(lambda: os.path.exists(f"{self.node.work}/done/{name}"), 30)
+        until(lambda: os.path.exists(f"{self.node.work}/done/{name}"))
         _, _, built, run = self.node.posted[name]
         self.made[path] = {it: dict(its) for it, its in self.node.files(name).items()}
         self.node.hold(path, {it: sorted(its.items()) for it, its in self.made[path].items()}, built, run, names=self.names)
@@ -103,7 +103,7 @@ def same_names(tally):
 
 
 def spoiled(tally):
-    """What is kept and has other bytes by now isn't handed in; nor is a unit whose inputs can't be had."""
+    """A kept file that has other bytes by now isn't handed in; nor is a unit whose inputs can't be printed."""
     with node_alone() as place:
         top = place.folder
         write_tree(top)
@@ -117,12 +117,12 @@ def spoiled(tally):
         bulk = Bulk(top, 2)
         bulk.post("a/base")
         begun = bulk.driver.begun()
-        add(tally, "what is kept and was changed", begun == 1 and bulk.driver.tells("[?] a/base isn't looked for among earlier builds: .* has other bytes than were kept there"),
+        add(tally, "a kept file that was changed", begun == 1 and bulk.driver.tells("[?] a/base isn't looked for among earlier builds: .* has other bytes than were kept there"),
             bulk.driver.lines())
         os.unlink(f"{top}/tree/b:doc")
         name = bulk.node.post("b/doc")
         told = bulk.driver.tells("[?] b/doc isn't looked for among earlier builds: --inputs ended with exit 1")
-        add(tally, "a unit whose inputs can't be had", told and bulk.driver.tells("> b/doc, .*"), bulk.driver.lines(), name)
+        add(tally, "a unit whose inputs can't be printed", told and bulk.driver.tells("> b/doc, .*"), bulk.driver.lines(), name)
         bulk.driver.end()
 
 
@@ -147,7 +147,7 @@ class Makefiles(Bulk):
         run = sorted({it for path in paths for it in self.listed["run"].get(path, ())})
         unit = port if len(paths) > 1 else paths[0]
         name = self.node.post(unit, paths, sorted(self.listed["needs"][port]), run)
-        until(lambda: os.path.exists(f"{self.node.work}/done/{name}"), 30)
+        until(lambda: os.path.exists(f"{self.node.work}/done/{name}"))
         self.node.hold(unit, self.node.files(name), self.node.posted[name][2], run, names=self.names)
 
 
@@ -215,4 +215,4 @@ def wrong_words(tally):
 
 def run(tally):
     for one in (bulks, makefiles, same_names, spoiled, wrong_words):
-        one(tally)
+        tally.case(one)

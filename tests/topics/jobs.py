@@ -11,7 +11,8 @@ import time
 
 from topics import job_faults, job_files, job_health, job_limits, job_records, job_reuse, packages
 from topics.nodes import beside
-from topics.played import BUILD, LIMIT, SLOW, TREE, WRITE, Driver, Node, add, has_text, is_alive, laid, name_of, read, until
+from topics.played import (BUILD, LIMIT, SLOW, TREE, WRITE, Driver, Node, add, has_text, is_alive, laid, name_of, read, until,
+                           without_seconds)
 from topics.tally import TESTS, TOP
 
 
@@ -30,8 +31,8 @@ def chain(tally):
         log = read(f"{node.work}/logs/c:d.log").splitlines()
         add(tally, "a log that begins with its job", log[1:5] == [f"@tree {TREE}", "@unit c/d", "@package c/d", f"@built {node.held['a/b,-main']}"], log)
         ended = driver.end()
-        told = driver.lines()
-        wanted = ["> a/b, on 0 packages: 1 of 1", "< a/b 0 s", "> c/d, on 2 packages: 1 of 1", "< c/d 0 s", "> e/f, on 3 packages: 1 of 1", "< e/f 0 s",
+        told = without_seconds(driver.lines())
+        wanted = ["> a/b, on 0 packages: 1 of 1", "< a/b N s", "> c/d, on 2 packages: 1 of 1", "< c/d N s", "> e/f, on 3 packages: 1 of 1", "< e/f N s",
                   "3 built, 0 failed, 0 dropped"]
         add(tally, "a line a change", (told, ended) == (wanted, 128 + signal.SIGTERM), (told, ended))
 
@@ -47,15 +48,15 @@ def side_by_side(tally):
 
 
 def failures(tally):
-    """What fails is marked with why and its log, and built again once the mark is gone; each answer that is none fails."""
+    """What fails is marked with why and its log, and built again once the mark is gone; each malformed answer fails."""
     with laid('echo told; [ -e "$TOP/mended" ] || exit 3; ' + BUILD) as (node, driver):
         name = node.post("a/b")
         why, log = node.failed(name), f"{os.path.realpath(node.work)}/logs/failed/a:b.log"
         add(tally, "a build that fails", why == f"a/b: status 3\n{log}\n", why)
-        add(tally, "the same, told", driver.tells(re.escape(f"! a/b failed after 0 s: status 3, see {log}")), driver.lines())
+        add(tally, "the same, told", driver.tells(f"! a/b failed after [0-9]+ s: status 3, see {re.escape(log)}"), driver.lines())
         add(tally, "the same, its log", read(log).endswith("told\n"), read(log))
         time.sleep(0.3)
-        add(tally, "a mark that stands", len(driver.lines()) == 2 and not os.listdir(f"{node.work}/done"), driver.lines())
+        add(tally, "a mark that stays", len(driver.lines()) == 2 and not os.listdir(f"{node.work}/done"), driver.lines())
         with open(f"{node.folder}/mended", "w"):
             os.unlink(f"{node.work}/failed/{name}")
         add(tally, "a mark that was taken away", bool(node.take(name)), driver.lines())
@@ -71,7 +72,7 @@ def failures(tally):
 
 
 def odd_jobs(tally):
-    """A job that isn't whole, or of another name, is none; one waits for what it is to be built on, and for the log."""
+    """A job that isn't whole, or of another name, isn't taken; one waits for what it is to be built on, and for the log."""
     with tempfile.TemporaryDirectory() as folder:
         node = Node(folder)
         node.held["c/d"] = f"c/d p9-1 {'0' * 64}"
@@ -94,8 +95,10 @@ def odd_jobs(tally):
         node.open()
         node.held.clear()
         node.hold("c/d", {"c/d": []})
-        add(tally, "other dependencies of the same path", len(driver.lines()) == 2 and not os.listdir(f"{node.work}/done"), driver.lines())
-        add(tally, "what it waits for", driver.tells(re.escape(f"? e/f waits: {node.log} hasn't all that it is to be built on")), driver.lines())
+        is_told = driver.tells(re.escape(f"? e/f waits: {node.log} hasn't all that it is to be built on"))
+        right = driver.begun() == 0 and len(driver.lines()) == 3 and not os.listdir(f"{node.work}/done")
+        add(tally, "other dependencies of the same path", right, driver.lines())
+        add(tally, "what it waits for", is_told, driver.lines())
         os.unlink(f"{node.work}/jobs/{waits}")
         add(tally, "a log that was made anew", bool(node.take(node.post("e/f", built=["c/d"]))), driver.lines())
         driver.end()
@@ -106,9 +109,13 @@ def odd_jobs(tally):
         add(tally, "a bad log", is_told and status == 1 and driver.lines()[-1] == f"build-jobs: {node.log}: a note's kind is 7 at 48", (status, driver.lines()))
 
 
+# how long a driver waits for its builds when a signal ends it: it ends as soon as they have ended
+PATIENT = ("--grace", "60")
+
+
 def drivers_that_end(tally):
     """By a signal its builds end with it. Killed, they run on, and the next one hands in what comes of them."""
-    with laid(SLOW) as (node, driver):
+    with laid(SLOW, *PATIENT) as (node, driver):
         name = node.post("a/b")
         until(lambda: has_text(f"{node.folder}/pid"))
         second = Driver(node, BUILD)
@@ -128,31 +135,32 @@ def drivers_that_end(tally):
             with open(f"{node.work}/{half}", "w") as file:
                 file.write("{")
         again = Driver(node, 'mkdir "$OUT/$(echo $PKGPATH | tr / :)"', "-j", "2")
-        add(tally, "the next one tells it", again.tells("= a build of a/b goes on, which an earlier run began"), again.lines())
+        add(tally, "the next one says it", again.tells("= a build of a/b goes on, which an earlier run began"), again.lines())
         other = node.take(node.post("c/d")), is_alive(node.folder, "pid"), again.begun("a/b"), os.listdir(f"{node.work}/begun")
         add(tally, "a unit of which a build goes on", other[:3] == ({"c/d": {}}, True, 0) and name in other[3] and "1" * 64 not in other[3], other)
         with open(f"{node.folder}/go", "w"):
             made = node.take(name)
         add(tally, "what is handed in", made == {"a/b": {"saw": b"", "on": b""}} and node.is_forgotten(name) and again.begun("a/b") == 0, made)
+        until(lambda: not os.listdir(f"{node.work}/done"))
         left = os.listdir(f"{node.work}/done"), os.listdir(f"{node.work}/failed")
         add(tally, "what was half written, and not by the node", left == ([], [f".{name}.1"]), left)
         add(tally, "what outlived is removed", until(lambda: os.listdir(f"{node.work}/build") == []), os.listdir(f"{node.work}/build"))
-        add(tally, "nothing has begun", os.listdir(f"{node.work}/begun") == [], os.listdir(f"{node.work}/begun"))
+        add(tally, "nothing has begun", until(lambda: os.listdir(f"{node.work}/begun") == []), os.listdir(f"{node.work}/begun"))
         again.end()
 
 
 def ends_of_builds(tally):
-    """A build that is ended may clean up first, though its shell ends at once; one that is over is handed in before the driver ends; and
+    """A build that is ended may clean up first, though its shell ends at once. One that is over is handed in before the driver ends, and
     what is mounted in its folder stays as it is."""
-    clean = 'python3 -c "import os, signal, time\ndef end(*_):\n time.sleep(0.5)\n open(os.environ[\'TOP\'] + \'/cleaned\', \'w\')\n os._exit(0)\nsignal.signal(15, end)\nopen(os.environ[\'TOP\'] + \'/up\', \'w\')\ntime.sleep(60)"; true'
+    clean = 'python3 -c "import os, signal, time\ndef end(*_):\n time.sleep(0.5)\n open(os.environ[\'TOP\'] + \'/cleaned\', \'w\')\n os._exit(0)\nsignal.signal(15, end)\nopen(os.environ[\'TOP\'] + \'/up\', \'w\')\ntime.sleep(1000)"; true'
     for what, end in (("a signal", lambda node, driver: driver.end()), ("a unit that is held", lambda node, driver: node.hold("a/b", {"a/b": []}))):
-        with laid(clean) as (node, driver):
+        with laid(clean, *PATIENT) as (node, driver):
             name = node.post("a/b")
             until(lambda: os.path.exists(f"{node.folder}/up"))
             end(node, driver)
             right = until(lambda: os.path.exists(f"{node.folder}/cleaned")) and until(lambda: os.listdir(f"{node.work}/build") == [])
             add(tally, f"{what}, what a build cleans up", right and not os.path.exists(f"{node.work}/failed/{name}"), driver.lines())
-    with laid(SLOW) as (node, driver):
+    with laid(SLOW, *PATIENT) as (node, driver):
         name = node.post("a/b")
         until(lambda: has_text(f"{node.folder}/pid"))
         os.rename(f"{node.work}/done", f"{node.folder}/done")
@@ -171,12 +179,14 @@ def nodes_that_go_on(tally):
         until(lambda: has_text(f"{node.folder}/pid"))
         node.hold("a/b", {"a/b": []})
         told = driver.tells("- a/b: another node built it")
-        add(tally, "a unit that is held", told and node.is_forgotten(name) and not is_alive(node.folder, "pid"), driver.lines())
+        gone = until(lambda: not is_alive(node.folder, "pid"))
+        add(tally, "a unit that is held", told and node.is_forgotten(name) and gone, driver.lines())
         os.unlink(f"{node.folder}/pid")
         name = node.post("c/d")
         until(lambda: has_text(f"{node.folder}/pid"))
         os.unlink(f"{node.work}/jobs/{name}")
-        add(tally, "a job that is taken away", driver.tells("- c/d: its job was taken away") and not is_alive(node.folder, "pid"), driver.lines())
+        told, gone = driver.tells("- c/d: its job was taken away"), until(lambda: not is_alive(node.folder, "pid"))
+        add(tally, "a job that is taken away", told and gone, driver.lines())
         driver.end()
         add(tally, "what was dropped", driver.lines()[-1] == "0 built, 0 failed, 2 dropped", driver.lines())
 
@@ -204,7 +214,8 @@ def builds_that_misbehave(tally):
 def what_the_system_refuses(tally):
     """What can't be written is reported, and tried again; a host that stops leaves no mark; a folder that was made anew ends it."""
     with laid(BUILD) as (node, driver):
-        until(lambda: os.path.exists(f"{node.work}/lock"))
+        # it has to be through with its start, which refuses such a folder
+        node.take(node.post("z/first"))
         os.rename(f"{node.work}/done", f"{node.work}/gone")
         with open(f"{node.work}/done", "w"):
             name = node.post("a/b")
@@ -216,14 +227,16 @@ def what_the_system_refuses(tally):
         add(tally, "the same once it is there", bool(node.take(name)), driver.lines())
     with laid(BUILD) as (node, driver):
         os.mkdir(f"{node.work}/elsewhere")
-        until(lambda: os.path.exists(f"{node.work}/lock"))
+        node.take(node.post("z/first"))
         with open(f"{node.work}/logs/a:b.log", "w"):
             os.rename(f"{node.work}/logs", f"{node.work}/elsewhere/logs")
         name = node.post("a/b")
-        add(tally, "a log that can't be written", driver.tells("[?] a/b waits: .*logs/a:b.log.*") and os.listdir(f"{node.work}/build") == [], driver.lines())
+        told = driver.tells("[?] a/b waits: .*logs/a:b.log.*")
+        # it is tried again and again
+        add(tally, "a log that can't be written", told and until(lambda: os.listdir(f"{node.work}/build") == []), driver.lines())
         os.rename(f"{node.work}/elsewhere/logs", f"{node.work}/logs")
         add(tally, "the same once it can", bool(node.take(name)), driver.lines())
-    with laid(SLOW) as (node, driver):
+    with laid(SLOW, *PATIENT) as (node, driver):
         name = node.post("a/b")
         until(lambda: has_text(f"{node.folder}/pid"))
         os.kill(int(read(f"{node.folder}/pid")), signal.SIGTERM)
@@ -231,7 +244,7 @@ def what_the_system_refuses(tally):
         ended = driver.end()
         left = os.listdir(f"{node.work}/failed"), os.listdir(f"{node.work}/jobs"), os.listdir(f"{node.work}/build")
         add(tally, "a build that is ended just before it", (ended, left) == (143, ([], [name], [])), (ended, left, driver.lines()))
-    with laid(SLOW) as (node, driver):
+    with laid(SLOW, *PATIENT) as (node, driver):
         node.post("a/b")
         until(lambda: has_text(f"{node.folder}/pid"))
         os.rename(node.work, f"{node.folder}/old")
@@ -257,7 +270,7 @@ def what_is_no_job(tally):
         for what, name in (*odd.items(), ("a folder", "1" * 64), ("a FIFO", "2" * 64)):
             add(tally, f"a job that is {what}", driver.tells(f"[?] jobs/{name} is no job: .*"), driver.lines())
         begun = [line for line in driver.lines() if line.startswith(">")]
-        add(tally, "a job beside these", bool(made) and begun == ["> z/b, on 0 packages: 1 of 1"], driver.lines())
+        add(tally, "a job next to these", bool(made) and begun == ["> z/b, on 0 packages: 1 of 1"], driver.lines())
 
 
 def where_it_stands(tally):
@@ -307,7 +320,7 @@ def commands(tally):
         os.chmod(f"{folder}/build", 0o755)
         process = subprocess.Popen([f"{TOP}/tools/build-jobs", node.work, node.log, "--", "./build"], cwd=folder, stdin=subprocess.DEVNULL,
                                    stdout=subprocess.DEVNULL, stderr=subprocess.DEVNULL)
-        add(tally, "a command beside it", bool(node.take(node.post("a/b"))))
+        add(tally, "a command next to it", bool(node.take(node.post("a/b"))))
         process.kill()
         process.wait()
         process = subprocess.Popen([f"{TOP}/tools/build-jobs", node.work, node.log, "--", "sh", "-c", f"{BUILD}; exit 3"], stdin=subprocess.DEVNULL,
@@ -353,7 +366,7 @@ def large(tally):
         add(tally, "large files", [sorted(its) for it in made for its in it.values()] == [["big.sha256", "small"]] * 2 and len(names) == 2 and right, (made, names))
         text = next(iter(made[0].values()))["big.sha256"].decode()
         digest = re.findall("[0-9a-f]{64}", text)[0]
-        add(tally, "a large file, what is told", text == f"SHA256 (big) = {digest}\nSIZE (big) = {LARGE}\n" and digest in names, text)
+        add(tally, "a large file, what is said", text == f"SHA256 (big) = {digest}\nSIZE (big) = {LARGE}\n" and digest in names, text)
         first.end()
         for path, its in ((path, its) for it in made for path, its in it.items()):
             nodes[1].hold(path, {path: sorted(its.items())})
@@ -362,7 +375,7 @@ def large(tally):
 
 
 def fetched(tally, nodes, digest):
-    """Another host has none of them: what comes first is wrong, and isn't used."""
+    """Another host has none of them: the first that arrives is wrong, and isn't used."""
     see = 'mkdir "$OUT/a:z" && cd "$DEPS" && ls a:x a:y > "$OUT/a:z/saw" && cat a:x/big a:y/big | wc -c > "$OUT/a:z/size"'
     get = f'echo $HOST $SIZE $NAME >> "{nodes[1].folder}/asked"; if [ -e "{nodes[1].folder}/up" ]; then cp "{nodes[0].work}/store/$SHA256" "$TARGET"; else head -c $SIZE /dev/zero > "$TARGET"; fi'
     second = Driver(nodes[1], see, "--digests", "1000000", "--fetch", get)
@@ -370,7 +383,7 @@ def fetched(tally, nodes, digest):
     told = second.tells("[?] a/z waits for big of a/[xy], [0-9a-f]{64}, of host 1.*")
     store = f"{nodes[1].work}/store"
     aside = until(lambda: os.path.exists(f"{store}/wrong/{digest}.host1")) and os.path.getsize(f"{store}/wrong/{digest}.host1") == LARGE
-    # what comes next is half there till it is hashed
+    # the next one is half there till it is hashed
     whole = [it for it in os.listdir(store) if not it.startswith(".") and it != "wrong"]
     add(tally, "a file that comes wrong", told and aside and not whole, (second.lines(), whole, os.listdir(store)))
     with open(f"{nodes[1].folder}/up", "w"):
@@ -385,7 +398,7 @@ def fetched(tally, nodes, digest):
     third = Driver(nodes[1], see, "--digests", "1000000")
     nodes[1].post("a/zz", built=["a/x", "a/y"])
     told = third.tells(re.escape(f"? a/zz waits for big of a/x, {digest}, of host 1"))
-    aside = os.path.exists(f"{store}/wrong/{digest}") and digest_of(f"{store}/wrong/{digest}") != digest
+    aside = until(lambda: os.path.exists(f"{store}/wrong/{digest}")) and digest_of(f"{store}/wrong/{digest}") != digest
     add(tally, "a file of the store that was changed", told and digest not in os.listdir(store) and aside, third.lines())
     third.end()
 
@@ -409,7 +422,7 @@ def unpacked(tally, node, names):
 
 
 def stand_ins(tally):
-    """Only what names its own file replaces one, and only where that has a place."""
+    """Only what names its own file replaces one, and only if that has a place."""
     told = {name: f"SHA256 ({name}) = {packages.digest(b'large')}\nSIZE ({name}) = 5\n".encode() for name in ("x", "w/v", "u")}
     files = [("x", b"x"), ("x.sha256", told["x"]), ("y.sha256", told["x"]), ("w/v.sha256", told["w/v"]), ("u.sha256", told["u"]), ("u/t", b"t")]
     with tempfile.TemporaryDirectory() as folder:
@@ -422,7 +435,7 @@ def stand_ins(tally):
         got = packages.files_in(f"{folder}/out/a:b")
     wanted = {name: text for name, text in files if name != "w/v.sha256"}
     wanted["w/v"] = b"large"
-    tally.add("unpack-log of what stands for no file", "" if (said, got) == ((b"", b"", 0), wanted) else f"{said} {sorted(got)}")
+    tally.add("unpack-log of what names no file", "" if (said, got) == ((b"", b"", 0), wanted) else f"{said} {sorted(got)}")
 
 
 def words(tally):
@@ -434,7 +447,7 @@ def words(tally):
 
 
 def installed(tally):
-    """The tools find their modules where they are installed, also through a link."""
+    """The tools find their modules once they are installed, also through a link."""
     with tempfile.TemporaryDirectory() as folder:
         os.makedirs(f"{folder}/bin")
         for name in ("build-jobs", "make-builds", "unpack-log"):
@@ -448,36 +461,45 @@ def installed(tally):
 
 
 def unit_tests(tally):
-    """The parts of the tools one by one, and their types and style, as far as the programs for that are here."""
-    python = "3.8"
-    for name, words in (("pytest", ["-q", "-p", "no:cacheprovider", f"{TESTS}/unit"]), ("mypy", ["--strict", "--python-version", python, "--cache-dir", os.devnull, f"{TOP}/tools/dpbn_tools"]),
-                        ("flake8", ["--max-line-length", "140", f"{TOP}/tools/dpbn_tools", f"{TOP}/tools/build-jobs", f"{TOP}/tools/make-builds"])):
+    """The parts of the tools one by one, and their types and style and those of what runs the tests, as far as the programs for that are here."""
+    typed = ["--strict", "--cache-dir", os.devnull]
+    style = ["--max-line-length", "140"]
+    tools, tests = f"{TOP}/tools/dpbn_tools", f"{TESTS}/topics/lanes.py"
+    for name, what, words in (("pytest", "the tools", ["-q", "-p", "no:cacheprovider", f"{TESTS}/unit"]),
+                              ("mypy", "the tools", [*typed, "--python-version", "3.8", tools]),
+                              ("mypy", "the tests' lanes", [*typed, "--python-version", "3.9", "--follow-imports", "silent", tests]),
+                              ("mypy", "tests/soak", [*typed, "--python-version", "3.8", "--follow-imports", "silent", "-p", "soak_parts"]),
+                              ("flake8", "the tools", [*style, tools, f"{TOP}/tools/build-jobs", f"{TOP}/tools/make-builds"]),
+                              ("flake8", "the tests' lanes", [*style, tests, f"{TESTS}/run"]),
+                              ("flake8", "tests/soak", [*style, f"{TESTS}/soak", f"{TESTS}/soak_parts"])):
         found = next((path for path in map(shutil.which, (f"/usr/bin/{name}", name, f"{name}-3")) if path), None)
         if not found:
-            tally.skip(f"{name} on the tools", f"there is no {name} here")
+            tally.skip(f"{name} on {what}", f"there is no {name} here")
             continue
-        done = subprocess.run([found, *words], cwd=TOP, capture_output=True, text=True, timeout=300)
-        tally.add(f"{name} on the tools", "" if done.returncode == 0 else (done.stdout + done.stderr)[-3000:])
+        # where the modules of the tests are found
+        more = {tests: f"{TESTS}:{TOP}/tools", "soak_parts": f"{TESTS}:{TOP}/bench"}.get(words[-1])
+        done = subprocess.run([found, *words], cwd=TOP, capture_output=True, text=True, timeout=600, env={**os.environ, **({"MYPYPATH": more} if more else {})})
+        tally.add(f"{name} on {what}", "" if done.returncode == 0 else (done.stdout + done.stderr)[-3000:])
 
 
 def first(tally):
     for one in (installed, words, chain, side_by_side, failures, what_is_no_job, where_it_stands, drivers_that_end):
-        one(tally)
+        tally.case(one)
 
 
 def second(tally):
     for one in (ends_of_builds, nodes_that_go_on, builds_that_misbehave, what_the_system_refuses, commands):
-        one(tally)
+        tally.case(one)
 
 
 def third(tally):
     for one in (odd_jobs, large, stand_ins):
-        one(tally)
+        tally.case(one)
 
 
 def run(tally):
     # what depends on how fast it goes is by itself
-    job_files.many_that_wait(tally)
+    tally.case(job_files.many_that_wait)
     beside(tally, (first, second, third, job_faults.run_third, job_limits.run_second, job_records.run))
     beside(tally, (unit_tests, job_faults.run_first, job_faults.run_second, job_files.run_first, job_files.run_second, job_limits.run_first,
                    job_health.run, job_reuse.run))

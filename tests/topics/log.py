@@ -25,7 +25,7 @@ def log_file(owner, notes, gate=1, end=b"\0"):
 
 def run_probe(*words, **more):
     """The lines that the probe prints, each a word and a value."""
-    done = subprocess.run([LOG_PROBE, *words], capture_output=True, text=True, timeout=60, **more)
+    done = subprocess.run([LOG_PROBE, *words], capture_output=True, text=True, timeout=600, **more)
     return [(word, value) for word, _space, value in (line.partition(" ") for line in done.stdout.splitlines())]
 
 

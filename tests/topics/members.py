@@ -31,7 +31,7 @@ def asked(name):
 
 
 def run_probe(text, **more):
-    done = subprocess.run([PROBES], input=text, capture_output=True, timeout=60, **more)
+    done = subprocess.run([PROBES], input=text, capture_output=True, timeout=600, **more)
     return done.stdout, done.stderr, done.returncode
 
 

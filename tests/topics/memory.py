@@ -62,14 +62,15 @@ def cluster_problem(folder, got):
         return f"it prints {error!r}"
     if status == 1 and error:
         return f"it prints {out!r}" if out else ""
-    told = subprocess.run([PROGRAM, "run", "listing", "TRACE"], cwd=folder, capture_output=True, timeout=60).stdout
+    told = subprocess.run([PROGRAM, "run", "listing", "TRACE"], cwd=folder, capture_output=True, timeout=600).stdout
     lines = b"".join(line + b"\n" for line in told.split(b"\n") if line.startswith(b"node "))
     return "" if (out, lines, status) == (nodes.ALL, nodes.ALL, 0) else f"it prints {out!r}, dpbr run {told!r}, its status is {status}"
 
 
 def cluster_refusal(shims, number):
-    """What is wrong with a cluster of which the request for memory of that number is refused, and whether there was one."""
-    with tempfile.TemporaryDirectory() as folder:
+    """What is wrong with a cluster of which the request for memory of that number is refused, and whether there was one. What stays on
+    a disk isn't asked here, so its logs are in memory."""
+    with tempfile.TemporaryDirectory(dir=nodes.MEMORY) as folder:
         nodes.lay(folder)
         mark = f"{folder}/refused"
         environment = {**refusing(shims, number)[0], "REFUSED": mark}
@@ -78,7 +79,7 @@ def cluster_refusal(shims, number):
 
 
 def cluster_refusals(tally, shims):
-    """Refuses each request for memory of a cluster in turn; most of a run is waiting for its logs, so several run side by side."""
+    """Refuses each request for memory of a cluster in turn; several run side by side."""
     count, are_met = 0, True
     with concurrent.futures.ThreadPoolExecutor(SIDE_BY_SIDE) as pool:
         while are_met:
@@ -110,6 +111,7 @@ def run(tally):
         refusals(tally, folder, ["status", "listing", "BAD"], "memory for a refused text")
         refusals(tally, folder, ["audit", "listing", "BAD"], "memory for a refused list")
         refusals(tally, folder, ["run", "listing", "trace"], "memory for a take-over")
+        refusals(tally, folder, ["run", "--events", "listing", "trace"], "memory for the events of a take-over")
         refusals(tally, folder, ["run", "listing", "BAD"], "memory for a refused trace")
         refusals(tally, folder, ["wayon", "listing", "trace", "1", "devel/gettext", "4", "builds"], "memory for a way on")
         refusals(tally, folder, ["wayon", "listing", "trace", "0", "converters/libiconv", "4", "builds"], "memory for files of another path")

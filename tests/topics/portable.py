@@ -11,7 +11,8 @@ from typing import Dict, List, Tuple
 from topics import ssh
 from topics.tally import TESTS, TOP, contents
 
-LIMIT = 300
+# parts of other topics run below this, each with limits of its own
+LIMIT = 1200
 # parts of other topics that run there, with what is printed if all passed
 PARTS = {"jobs": ("chain", "side_by_side", "failures"), "order": ("cases", "refused"), "tree": ("dumps", "refused", "too_large"), "packages": ("good_logs", "bad_logs")}
 RUN = """import sys
@@ -48,7 +49,7 @@ def taken_away(tally) -> None:
     right = status == 0 and "False False " in said and "no /proc" in said and "b'False\\n'" in said and "/without-linux." in said
     tally.add("without Linux: the calls are gone", "" if right else said)
     said, _ = without_linux(["sh", "-c", "command -v timeout flock sha256sum setsid"], {})
-    tally.add("without Linux: the commands are gone", said.replace(f"tests/without-linux: there is no oksh mksh: ksh is the usual one\n", "") if "/" in said.split("usual one\n")[-1] else "")
+    tally.add("without Linux: the commands are gone", said.replace("tests/without-linux: there is no oksh mksh: ksh is the usual one\n", "") if "/" in said.split("usual one\n")[-1] else "")
 
 
 def locks(tally) -> None:

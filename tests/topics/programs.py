@@ -7,6 +7,7 @@ import tempfile
 import time
 
 from topics import started
+from topics import explained
 from topics.tally import EXAMPLES, PROGRAM, TESTS, TOP, answer, contents, difference, text_difference
 
 # The folders of stored cases of `dpbr status` and `dpbr audit`, and of those that the manual page shows.
@@ -83,6 +84,8 @@ def synopsis(page):
     part = re.search(r"^\.Sh SYNOPSIS\n(.*?)^\.Sh ", page, re.DOTALL | re.MULTILINE)[1]
     for call in re.split(r"^\.Nm\n", part, flags=re.MULTILINE)[1:]:
         lines = call.split("\n")
+        if lines[0] == ".Fl -version":
+            continue
         options = [(name, bool(value), line.startswith(".Op") or "|" in line)
                    for line in lines for name, value in re.findall(r"Fl -(\w+)( Ar \S+)?", line)]
         calls[re.match(r"\.Cm (\w+)\n", call)[1]] = ([line[4:].upper() for line in lines if line.startswith(".Ar ")],
@@ -135,7 +138,7 @@ def readme(tally):
     """The README's lines on files, each as it is there, in a folder with the files that it names: what they print is stored."""
     text = contents(f"{TOP}/README.md").decode()
     lines = re.findall(r"^    (\./dpbr status .*)$", text, re.MULTILINE)
-    lines += [it.strip() for it in re.search(r"^Other commands; the last two.*?\n\n(.*?)\n\n", text, re.DOTALL | re.MULTILINE)[1].split("\n")]
+    lines += [it.strip() for it in re.search(r"^Other commands\. The last two.*?\n\n(.*?)\n\n", text, re.DOTALL | re.MULTILINE)[1].split("\n")]
     # what lines that begin so print on standard output and on standard error
     stored = {"./dpbr status": ("examples.stdout", ""), "./dpbr run": ("examples.run.stdout", ""), "./dpbr wayon": ("examples.wayon.stdout", ""),
               "tools/expand-listing DUMP": ("expand/000/letters", "expand/000/stderr"),
@@ -150,7 +153,7 @@ def readme(tally):
         for line, begin in zip(lines, begins):
             if begin == "tools/why-ignored LISTING":
                 shutil.copy(f"{TESTS}/ignored/the_example/listing", f"{folder}/LISTING")
-            done = subprocess.run(["sh", "-c", line], cwd=folder, stdin=subprocess.DEVNULL, capture_output=True, timeout=120)
+            done = subprocess.run(["sh", "-c", line], cwd=folder, stdin=subprocess.DEVNULL, capture_output=True, timeout=600)
             out, error = (contents(f"{TESTS}/{it}") if it else b"" for it in stored[begin])
             tally.add(f"README.md, {line}", difference((done.stdout, done.stderr, done.returncode), (out, error, 0)))
 
@@ -170,7 +173,7 @@ def examples(tally):
 def no_calls(tally):
     """Wrong arguments: clap's text on standard error, and status 2."""
     status, audit, run = ["status", "listing", "held"], ["audit", "listing", "list"], ["run", "listing", "trace"]
-    for words in ([], ["--help"], ["help"], ["--version"], ["status"], ["status", "listing"], [*status, "more"], ["state", *status[1:]],
+    for words in ([], ["--help"], ["help"], ["status"], ["status", "listing"], [*status, "more"], ["state", *status[1:]],
                   [b"status", b"\xff", b"held"], ["status", "--help"], ["audit"], ["audit", "listing"], [*audit, "more"],
                   ["audit", "--help"], ["audits", *audit[1:]], ["--single", *status], ["--single", *audit], [*status, "--single=yes"],
                   ["run"], ["run", "listing"], [*run, "more"], ["run", "--help"], ["runs", *run[1:]], ["--single", *run],
@@ -269,7 +272,8 @@ def ignored_chain(tally):
         began = time.monotonic()
         got = answer(["status", "LISTING", "/dev/null"], folder)
         took = time.monotonic() - began
-    tally.add("a chain of ignored packages", difference(got, (text.encode(), b"", 0)) or ("" if took < 5 else f"it took {took:.1f} s"))
+    tally.add("a chain of ignored packages", difference(got, (text.encode(), b"", 0)))
+    tally.add("a chain of ignored packages, how long it takes", "" if took < 5 else f"it took {took:.1f} s", timed=True)
 
 
 def wrapper(tally):
@@ -294,9 +298,10 @@ def run(tally):
     examples(tally)
     readme(tally)
     helps(tally)
+    explained.explains(tally, "dpbr", lambda words: answer(words, EXAMPLES))
     no_calls(tally)
     faults(tally)
     limits(tally)
     run_chain(tally)
     one_unit(tally)
-    ignored_chain(tally)
+    tally.case(ignored_chain)

@@ -62,7 +62,7 @@ def words(tally, run, found):
 def dpbr(tally, run, found):
     """`dpbr status` of the paths that are held has the same letters, path by path."""
     if not os.path.exists(PROGRAM):
-        tally.skip("dpbn-report beside dpbr status", "dpbr isn't built here")
+        tally.skip("dpbn-report next to dpbr status", "dpbr isn't built here")
         return
     check(tally, "dpbr status of the same", letters_by_dpbr(run.folder, found) == letters_in(found), letters_in(found))
 
@@ -92,7 +92,7 @@ def stored(tally):
     for name in sorted(os.listdir(f"{TESTS}/status")):
         folder = f"{TESTS}/status/{name}"
         got = letters_of(folder, contents(f"{folder}/words").decode().split())
-        # a text of held paths that dpbr refuses is none of the report's
+        # a text of held paths that dpbr refuses isn't one of the report's
         if got is not None:
             compared += 1
             wanted = contents(f"{folder}/stdout") or contents(f"{folder}/stderr")
@@ -103,7 +103,7 @@ def stored(tally):
 # ---- blocked paths, counted in another way
 
 def built_without(division, held, left_out):
-    """The paths that come to be held if all is built that can be, except for some units: by building again and again whatever can be."""
+    """The paths that are held once all is built that can be, except for some units: by building again and again whatever can be."""
     held, run = set(held), division.tree.run
     while True:
         able = set(held)
@@ -161,9 +161,16 @@ def counted_again(tally):
     check(tally, "blocked paths, counted in another way", not wrong and blocked > 100, wrong[:5], blocked)
 
 
-def run(tally):
-    parts = (stored, as_counted, counted_again, report_schema.schema, report_page.page, report_runs.hooks, report_runs.again_and_again,
-             report_runs.watched, report_runs.refused, report_runs.odd, report_times.ends, report_times.remembered, report_times.morning,
-             report_times.full, report_real.real)
+def run_parts(tally, parts):
     for part in parts:
-        tally.run(f"report, {part.__name__}", part)
+        tally.case(part)
+
+
+def run_without_programs(tally):
+    run_parts(tally, (stored, counted_again, report_schema.schema, report_page.page, report_runs.hooks, report_runs.again_and_again,
+                      report_runs.watched, report_runs.refused, report_runs.odd, report_times.ends, report_times.remembered,
+                      report_times.morning, report_times.full))
+
+
+def run(tally):
+    run_parts(tally, (as_counted, report_real.real))

@@ -5,6 +5,7 @@ import http.server
 import os
 import re
 import shutil
+import signal
 import subprocess
 import tempfile
 import threading
@@ -14,8 +15,8 @@ from topics.tally import TESTS, contents
 
 # where the screenshots of the page are left; .gitignore names it
 ARTIFACTS = f"{TESTS}/artifacts"
-# how long a browser may take on a machine that does other things, too
-BROWSER_LIMIT = 180
+# how long a browser may take on a machine that does other things, too, and how often it is started for a page: a busy one may hang
+BROWSER_LIMIT, TRIES = 300, 3
 BROWSERS = ("chromium", "chromium-browser", "google-chrome")
 
 
@@ -25,11 +26,29 @@ def browser():
 
 def browse(url, *more):
     """What a browser has on its standard output for a page, and what the page wrote to its console."""
-    with tempfile.TemporaryDirectory() as profile:
-        words = [browser(), "--headless=new", "--no-sandbox", "--disable-gpu", "--hide-scrollbars", f"--user-data-dir={profile}",
-                 "--virtual-time-budget=4000", "--enable-logging=stderr", "--v=0", *more, url]
-        done = subprocess.run(words, capture_output=True, timeout=BROWSER_LIMIT, stdin=subprocess.DEVNULL, cwd=profile)
-    return done.stdout.decode(), re.findall(r"CONSOLE.*", done.stderr.decode(errors="replace"))
+    for left in reversed(range(TRIES)):
+        try:
+            return browse_once(url, *more)
+        except subprocess.TimeoutExpired:
+            if not left:
+                raise
+    return "", []
+
+
+def browse_once(url, *more):
+    """What `browse` returns, by one browser, which is ended with all that it began if it takes too long."""
+    profile = tempfile.mkdtemp()
+    words = [browser(), "--headless=new", "--no-sandbox", "--disable-gpu", "--hide-scrollbars", f"--user-data-dir={profile}",
+             "--virtual-time-budget=4000", "--enable-logging=stderr", "--v=0", *more, url]
+    process = subprocess.Popen(words, stdin=subprocess.DEVNULL, stdout=subprocess.PIPE, stderr=subprocess.PIPE, cwd=profile, start_new_session=True)
+    try:
+        out, said = process.communicate(timeout=BROWSER_LIMIT)
+    finally:
+        with contextlib.suppress(ProcessLookupError):
+            os.killpg(process.pid, signal.SIGKILL)
+        process.wait()
+        shutil.rmtree(profile, ignore_errors=True)
+    return out.decode(), re.findall(r"CONSOLE.*", said.decode(errors="replace"))
 
 
 class Texts(html.parser.HTMLParser):

@@ -9,7 +9,7 @@ import tempfile
 import time
 
 from topics import packages
-from topics.tally import PROGRAM, TOP, contents
+from topics.tally import PROGRAM, TOP, contents, seen
 
 sys.path.insert(0, f"{TOP}/tools")
 
@@ -17,7 +17,7 @@ from dpbn_tools import listings  # noqa: E402
 
 TOOL = f"{TOP}/tools/dpbn-report"
 # how long a call may take on a machine that does other things, too
-LIMIT = 120
+LIMIT = 240
 
 
 LISTING = """base/a.FULLPKGNAME=a-1
@@ -63,8 +63,8 @@ COUNTS = {"I": 2, "B": 1, "Q": 5, "T": 7, "!": 2}
 UNITS = {"all": 14, "held": 3, "failed": 3, "blocked": 5, "never": 0, "left": 3}
 
 
-def check(tally, name, right, *told):
-    tally.add(name, "" if right else " ".join(f"{it!r:.1000}" for it in told) or "it isn't so")
+def check(tally, name, right, *told, timed=False):
+    tally.add(name, "" if right else seen(*told) or "it isn't so", timed)
 
 
 # ---- a run that is played

@@ -54,11 +54,11 @@ def real(tally):
     """Three real nodes build a tree in which two ports are broken. At each moment that is looked at page, JSON and `dpbr status` agree;
     so do at the end what the nodes print, what unpack-log finds, and the builds that the drivers began."""
     if not shutil.which("bmake") or not all(map(os.path.exists, (PROGRAM, live.NODES))):
-        tally.skip("dpbn-report beside real nodes", "there is no bmake here, or dpbr and dpbn aren't built")
+        tally.skip("dpbn-report next to real nodes", "there is no bmake here, or dpbr and dpbn aren't built")
         return
     with live.laid(ports=24, seed=8, broken=2, ignored=1, least=0.2, most=1.2) as run:
         seen = Seen(run)
-        run.start("--takeover", "2", "--rest", "6")
+        run.start("--takeover", "2", "--rest", "20")
         seen.start()
         try:
             end = time.monotonic() + live.LIMIT
@@ -68,6 +68,8 @@ def real(tally):
             check(tally, "three nodes, how they end", run.ends() == [3] * 3, run.told())
             ended = live.until(lambda: os.path.exists(f"{seen.folder}/mail") and size(f"{seen.folder}/mail"), LIMIT)
             check(tally, "three nodes, the command at the end", ended)
+            # the nodes did something after that, and then ended
+            live.until(lambda: json.loads(contents(f"{seen.folder}/status.json"))["state"] == "stopped", LIMIT)
             seen.look(is_last=True)
         finally:
             said = seen.end()
@@ -83,7 +85,7 @@ def size(path):
 def moments(tally, run, seen):
     """What the report said while the nodes built."""
     fields, optional = table()
-    check(tally, "three nodes, moments that were looked at", len(seen.moments) > 4, len(seen.moments))
+    check(tally, "three nodes, moments that were looked at", len(seen.moments) > 4, len(seen.moments), timed=True)
     wrong = [place for place, (_, found) in enumerate(seen.moments) if letters_by_dpbr(run.folder, found) != letters_in(found)]
     check(tally, "three nodes, letters at each moment", not wrong, wrong, len(seen.moments))
     wrong = [one for _, found in seen.moments for one in misfits(fields, optional, found, seen=set())]

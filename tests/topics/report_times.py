@@ -60,7 +60,7 @@ def ends(tally):
         clock.reporter.bulk.log_paths = [f"{folder}/logs/node-0.log"]
         clock.reporter.bulk.reset()
         now = float(int(time.time()))
-        check(tally, "the end of what has just begun", clock.at(now)["estimate"] is None)
+        check(tally, "the end of what began a moment ago", clock.at(now)["estimate"] is None)
         for number in range(20):
             run.append(0, held(f"a/p{number}", f"p{number}-1", 0))
             found = clock.at(now + 10 * number + 10)
@@ -164,7 +164,8 @@ def full(tally):
                 "print(min(took), most[0] // 1024, len(it.reporter.division.tree.paths))")
         done = subprocess.run([sys.executable, "-c", code, *run.words()], capture_output=True, timeout=LIMIT)
         told = done.stdout.split()
-        check(tally, "a look at a full tree", len(told) == 3 and float(told[0]) < 1 and int(told[1]) < 200, done.stdout, done.stderr)
+        check(tally, "a look at a full tree", len(told) == 3 and int(told[1]) < 200, done.stdout, done.stderr)
         if len(told) == 3:
+            check(tally, "a look at a full tree, how long it takes", float(told[0]) < 1, told, timed=True)
             print(f"tests/run: a look at {int(told[2]):,} paths and three logs of {size // 1_000_000} MB: {float(told[0]):.2f} s, "
                   f"{int(told[1])} MiB", flush=True)

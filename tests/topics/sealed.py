@@ -12,10 +12,10 @@ import subprocess
 import tempfile
 import time
 
-from topics import nodes
-from topics.nodes import (LISTING, NODES, SHARED, agreed, answer, free_ports, grown, lay, lay_logs, logs_in, node_line, put, refused,
-                          taken, ticks)
-from topics.tally import contents, difference
+from topics import nodes, processor
+from topics.nodes import (LIMIT, LISTING, MEMORY, NODES, SHARED, agreed, answer, free_ports, grown, lay, lay_logs, logs_in, node_line, put,
+                          refused, taken)
+from topics.tally import Lines, contents, difference, seen as shown
 
 # how many datagrams are sent, in all, that are forged; and that are noise or genuine ones with a bit flipped
 FORGED = FLIPPED = 1_000_000
@@ -122,17 +122,26 @@ def seen(folder, me):
 
 
 def settled(folder, me):
-    """That, once it no longer changes."""
-    before, now = None, seen(folder, me)
-    while before != now:
-        time.sleep(1.5)
-        before, now = now, seen(folder, me)
+    """That, once it no longer changes: not for a while, in which the node has reported several times."""
+    now, end = None, time.monotonic() + LIMIT
+    while time.monotonic() < end:
+        before, reports, since = now, reports_of(folder, me), time.monotonic()
+        while (reports_of(folder, me) < reports + 3 or time.monotonic() < since + 1.5) and time.monotonic() < end:
+            time.sleep(0.1)
+        now = seen(folder, me)
+        if now == before:
+            break
     return now
 
 
-def has_told(folder, me, *lines, seconds=60):
+def reports_of(folder, me):
+    """How often it reported on the others."""
+    return sum(line.startswith(b"dpbn: strangers: ") for line in lines_of(folder, me))
+
+
+def has_told(folder, me, *lines):
     """Waits until it has reported one of these lines."""
-    until = time.monotonic() + seconds
+    until = time.monotonic() + LIMIT
     while time.monotonic() < until:
         if not set(lines).isdisjoint(lines_of(folder, me)):
             return True
@@ -142,13 +151,12 @@ def has_told(folder, me, *lines, seconds=60):
 
 def at_rest(folder, me):
     """Waits until the node's log stays as it is, and gives its bytes."""
-    path = f"{folder}/logs/node-{me}.log"
-    grown(path, 45)
-    before, now = None, contents(path)
-    while before != now:
-        time.sleep(1)
-        before, now = now, contents(path)
-    return now
+    return nodes.at_rest(folder, me)[f"node-{me}.log"]
+
+
+def last_of(folder, *members):
+    """What these nodes printed last."""
+    return Lines(text for me in members for text in (f"node {me}, the last:", *(f"    {line!r}" for line in lines_of(folder, me)[-5:])))
 
 
 def others(line):
@@ -159,7 +167,7 @@ def others(line):
 def lay_run(folder, listing=LISTING, builds=nodes.BUILDS):
     """Files of a listing and builds, and a key; and gives it."""
     lay(folder, listing, builds)
-    subprocess.run([NODES, "key", "key"], cwd=folder, check=True, timeout=60)
+    subprocess.run([NODES, "key", "key"], cwd=folder, check=True, timeout=600)
     return bytes.fromhex(contents(f"{folder}/key").decode().strip())
 
 
@@ -240,7 +248,7 @@ def runs(tally):
         held = [has_told(folder, me, node_line(me, i=1)[:-1]) for me in range(3)]
         for node in three:
             over(node)
-        tally.add("three nodes under a key", "" if all(held) else f"{[lines_of(folder, me)[-3:] for me in range(3)]}")
+        tally.add("three nodes under a key", "" if all(held) else shown(last_of(folder, 0, 1, 2)))
         whole = logs_in(folder)
         tally.add("the folder", "" if sorted(whole) == [f"node-{me}.{it}" for me in range(3) for it in ("log", "run")] else f"{sorted(whole)}")
         tally.add("--continue", "" if answer([*first, "--continue"], folder)[::2] == (node_line(0, i=1), 0) else "it is refused")
@@ -283,6 +291,40 @@ def runs(tally):
         tally.add("an older copy of the log opens: nothing detects it", "" if got[2] == 0 else f"{got[1]!r}")
 
 
+def folders(tally):
+    """A node starts only in a folder in which nobody but its owner may write; others may read there. Elsewhere nothing is made."""
+    with tempfile.TemporaryDirectory() as folder:
+        lay_run(folder)
+        first = node_words(0, 0, keyed(free_ports(1)))
+        for mode in (0o700, 0o755, 0o711, 0o720, 0o775, 0o757, 0o702, 0o1777):
+            is_shared = bool(mode & 0o022)
+            lay_logs(folder)
+            os.chmod(f"{folder}/logs", mode)
+            got = answer(first, folder)
+            tally.add(f"a folder of logs with mode {mode:o}", difference(got, refused(1210) if is_shared else (node_line(0, q=1), NOTHING, 0)))
+            tally.add(f"the logs in a folder with mode {mode:o}", "" if bool(logs_in(folder)) != is_shared else f"{sorted(logs_in(folder))}")
+        os.chmod(f"{folder}/logs", 0o775)
+        tally.add("--continue in a folder in which others may write", difference(answer([*first, "--continue"], folder), refused(1210)))
+
+
+def unread(tally, turns=20_000):
+    """A node whose messages nobody reads takes all its turns: standard error is a pipe, and its lines are more than it holds."""
+    with tempfile.TemporaryDirectory() as folder:
+        lay(folder)
+        words = node_words(0, turns, ["--base", str(free_ports(3)), "--patience", "0", "--progress", "1"])
+        with subprocess.Popen([NODES, *words], cwd=folder, stdout=subprocess.PIPE, stderr=subprocess.PIPE) as node:
+            try:
+                node.wait(timeout=LIMIT)
+                out, told = node.stdout.read(), node.stderr.read()
+            except subprocess.TimeoutExpired:
+                node.kill()
+                out, told = b"", b""
+        lines = told.split(b"\n")
+        tally.add("a node whose messages nobody reads", "" if (out, node.returncode) == (node_line(0, q=1), 0) else f"{out!r}, {node.returncode}")
+        whole = bool(told) and lines[-1] == b"" and set(lines[:-1]) == {node_line(0, q=1)[:-1]}
+        tally.add("its messages up to the end of the pipe", "" if whole and len(lines) <= turns else f"{len(lines)} lines, {lines[-3:]}")
+
+
 # ---- what arrives
 
 def believed(tally):
@@ -292,14 +334,20 @@ def believed(tally):
             lay_run(folder)
             port = free_ports(1)
             with taken(port, "127.0.0.2") as mouth:
-                node = begun(folder, 0, ["--hosts", where(port), "--patience", "5", *words], 300)
+                node = begun(folder, 0, ["--hosts", where(port), "--patience", "5", *words])
                 grown(f"{folder}/logs/node-0.run", 1)
+                # its line comes after its tallies
+                grown(f"{folder}/err-0", 1)
                 build = record("a/b", "b-1.0", b"forged")
-                for datagram in datagrams_of(tree_of(folder), b"a/b", build, 1).values():
+                sent = datagrams_of(tree_of(folder), b"a/b", build, 1).values()
+                for datagram in sent:
                     mouth.sendto(datagram, ("127.0.0.1", port))
-                node.wait(timeout=120)
-            out = contents(f"{folder}/out-0")
-            tally.add(f"forged datagrams, {name}", "" if out == line else f"{out!r}")
+                if line == node_line(0, i=1):
+                    has_told(folder, 0, line[:-1])
+                now = settled(folder, 0)
+            over(node)
+            told = [it for it in lines_of(folder, 0) if it.startswith(b"node ")][-1:]
+            tally.add(f"forged datagrams, {name}", "" if told == [line[:-1]] else shown(told, now, last_of(folder, 0)))
 
 
 def forgeries(tree, weights, count):
@@ -308,30 +356,32 @@ def forgeries(tree, weights, count):
     for sender in (1, 2):
         texts += datagrams_of(tree, b"a/b", record("a/b", "b-1.0", b"forged"), sender).values()
     strange = run_key(bytes(32), tree, weights)
+    forms = (lambda text: text, lambda text: text + dice.randbytes(32), lambda text: sealed(strange, text), lambda text: sealed(strange, text)[:-1],
+             lambda text: text + bytes(32))
     for number in range(count):
-        text = texts[number % len(texts)]
-        yield (text, text + dice.randbytes(32), sealed(strange, text), sealed(strange, text)[:-1], text + bytes(32))[number // len(texts) % 5]
+        yield forms[number // len(texts) % len(forms)](texts[number % len(texts)])
 
 
 def forged(tally):
     """A million forged datagrams at a node whose peers are away: a third from a stranger, the others from the members' addresses. Nothing
     is noted, no turn is used; then a peer comes, and both hold all."""
-    with tempfile.TemporaryDirectory() as folder:
+    with tempfile.TemporaryDirectory(dir=MEMORY) as folder:
         lay_run(folder)
         port = free_ports(1)
         node = begun(folder, 0, keyed(port))
         before = at_rest(folder, 0)
         tree = tree_of(folder)
-        used, began = ticks(node), time.monotonic()
+        used, began = processor.seconds_of(node.pid), time.monotonic()
         for address, count in ((STRANGER, FORGED // 3), ("127.0.0.2", FORGED // 3), ("127.0.0.3", FORGED - 2 * (FORGED // 3))):
             with taken(port, address) as mouth:
                 flood(mouth, ("127.0.0.1", port), forgeries(tree, (1, 1, 1), count))
         took = time.monotonic() - began
         tallies, strangers = settled(folder, 0)
-        used = (ticks(node) - used) / os.sysconf("SC_CLK_TCK")
+        used = processor.seconds_of(node.pid) - used
         came = strangers + sum(it[1] for it in tallies.values())
         print(f"tests/run: {FORGED:,} forged datagrams in {took:.1f} s: {came:,} were read, {strangers:,} of a stranger; {used:.1f} s of processor", flush=True)
-        tally.add("forged datagrams that were read", "" if came > FORGED / 2 else f"{came}")
+        # a node that gets no processor loses datagrams
+        tally.add("forged datagrams that were read", "" if came > FORGED / 2 else f"{came}", timed=True)
         tally.add("forged datagrams that are heard", "" if all(it[0] == 0 for it in tallies.values()) else f"{tallies}")
         wanted = [b"dpbn: member %d seals otherwise: another key, listing, weights or members" % me for me in (1, 2)]
         told = sorted(line for line in lines_of(folder, 0) if others(line))
@@ -341,17 +391,17 @@ def forged(tally):
         held = [has_told(folder, me, node_line(me, i=1)[:-1]) for me in (0, 1)]
         over(peer)
         over(node)
-        tally.add("a peer after forged datagrams", "" if all(held) else f"{held}")
+        tally.add("a peer after forged datagrams", "" if all(held) else shown(held, last_of(folder, 0, 1)))
 
 
 def flipped(tally):
     """A million datagrams from a member's address at a node: noise, and genuine ones of this run with a bit flipped."""
     dice = random.Random(3)
-    with tempfile.TemporaryDirectory() as folder:
+    with tempfile.TemporaryDirectory(dir=MEMORY) as folder:
         lay_run(folder)
         port = free_ports(1)
         with taken(port, "127.0.0.3") as mouth:
-            mouth.settimeout(30)
+            mouth.settimeout(LIMIT)
             node = begun(folder, 0, keyed(port))
             genuine = [mouth.recv(65_536) for _ in range(20)]
             before = at_rest(folder, 0)
@@ -366,7 +416,8 @@ def flipped(tally):
 
             flood(mouth, ("127.0.0.1", port), (one(number) for number in range(FLIPPED)))
             tallies, _ = settled(folder, 0)
-            tally.add("noise and flipped bits", "" if tallies[2][0] == 0 and tallies[2][1] > FLIPPED / 2 else f"{tallies}")
+            tally.add("noise and flipped bits", "" if tallies[2][0] == 0 else f"{tallies}")
+            tally.add("noise and flipped bits that were read", "" if tallies[2][1] > FLIPPED / 2 else f"{tallies}", timed=True)
             tally.add("the log after noise and flipped bits", "" if contents(f"{folder}/logs/node-0.log") == before else "it changed")
             mouth.sendto(genuine[0], ("127.0.0.1", port))
             tally.add("a genuine one after them", "" if settled(folder, 0)[0][2][0] == 1 else f"{seen(folder, 0)}")
@@ -405,14 +456,14 @@ def strangers_of_the_run(tally):
 
 def replayed(tally, packages=30):
     """All that two nodes of a run sent to the third, sent again: to the same nodes, started again, and to those of a run with another key."""
-    with tempfile.TemporaryDirectory() as folder:
+    with tempfile.TemporaryDirectory(dir=MEMORY) as folder:
         lay_run(folder, *many(packages, sizes=(0, 10, 40_000)))
         port = free_ports(1)
         with taken(port, "127.0.0.3") as ear:
             ear.settimeout(0.05)
             ear.setsockopt(socket.SOL_SOCKET, socket.SO_RCVBUF, 4_000_000)
             two, sent, held = [begun(folder, me, keyed(port)) for me in (0, 1)], [], [False, False]
-            until = time.monotonic() + 120
+            until = time.monotonic() + LIMIT
             while not all(held) and time.monotonic() < until:
                 try:
                     sent.append(ear.recv(65_536))
@@ -463,7 +514,7 @@ def beside_a_flood(tally, packages=150):
             grown(f"{folder}/logs/node-0.run", 1)
             texts = list(forgeries(tree_of(folder), (1, 1, 1), 4_096))
             with taken(port, "127.0.0.3") as mouth:
-                while not all(held) and time.monotonic() < began + 300:
+                while not all(held) and time.monotonic() < began + LIMIT:
                     for datagram in texts[:AT_ONCE] if is_flooded else []:
                         for me in (0, 1):
                             mouth.sendto(datagram, (f"127.0.0.{me + 1}", port))
@@ -474,7 +525,7 @@ def beside_a_flood(tally, packages=150):
             took.append((time.monotonic() - began, sent))
             for node in two:
                 over(node)
-            tally.add(f"two nodes {'beside a flood' if is_flooded else 'alone'}", "" if all(held) else f"{held}")
+            tally.add(f"two nodes {'beside a flood' if is_flooded else 'alone'}", "" if all(held) else shown(held, last_of(folder, 0, 1)))
     print(f"tests/run: two nodes, {packages} packages: {took[0][0]:.1f} s, and next to {took[1][1]:,} forged datagrams {took[1][0]:.1f} s", flush=True)
 
 
@@ -528,14 +579,19 @@ def repeated(tally, seconds=4):
             before = settled(folder, 0)[0]
             sent, came = asked_for(mouth, node, request(b"p/n0"), seconds)
             print(f"tests/run: one request, sent {sent:,} times in {seconds} s, was answered {len(came)} times", flush=True)
-            tally.add("a request sent over and over", "" if seconds - 1 <= len(came) <= seconds + 1 and sent > 200 * seconds else f"sent {sent}, {came}")
+            tally.add("a request sent over and over", "" if len(came) <= seconds + 1 else f"sent {sent}, {came}")
+            often = len(came) >= seconds - 1 and sent > 200 * seconds
+            tally.add("a request sent over and over, how often it is answered", "" if often else f"sent {sent}, {came}", timed=True)
             for name, it, path in (("for another unit", mouth, b"p/n1"), ("from another member's address", other, b"p/n0")):
                 it.sendto(request(path), node)
-                tally.add(f"a request {name} after it", "" if comes(mouth, front(b"DPB2", 5, 0, tree, path), 0.9) else "it isn't answered at once")
+                tally.add(f"a request {name} after it", "" if comes(mouth, front(b"DPB2", 5, 0, tree, path), 0.9) else "it isn't answered at once", timed=True)
             heard, otherwise, again = [now - then for now, then in zip(settled(folder, 0)[0][2][:3], before[2])]
             # the request for the other unit is one more that is heard; an answer may have been overlooked
-            right = otherwise == 0 and heard + again == sent + 1 and len(came) + 1 <= heard <= len(came) + 2
-            tally.add("what is counted of requests", "" if right else f"sent {sent}, answered {len(came)}, heard {heard}, {otherwise}, again {again}")
+            told = f"sent {sent}, answered {len(came)}, heard {heard}, {otherwise}, again {again}"
+            right = otherwise == 0 and heard + again <= sent + 1 and heard >= len(came)
+            tally.add("what is counted of requests", "" if right else told)
+            right = heard + again == sent + 1 and len(came) + 1 <= heard <= len(came) + 2
+            tally.add("what is counted of requests, of which none is lost", "" if right else told, timed=True)
         over(two[0])
 
 
@@ -548,7 +604,7 @@ def silent_for(folder, me, member):
 def faults_again(tally, count=50):
     """A member that is in sends what means nothing: the fault is reported once, and then how often it came again; and how many seconds ago
     the member was heard."""
-    with tempfile.TemporaryDirectory() as folder:
+    with tempfile.TemporaryDirectory(dir=MEMORY) as folder:
         key = lay_run(folder)
         port = free_ports(1)
         with taken(port, "127.0.0.2") as mouth:
@@ -560,18 +616,18 @@ def faults_again(tally, count=50):
             sent = time.monotonic()
             again = has_told(folder, 0, b"dpbn: fault 1202 came %d times more" % (count - 1))
             silent, passed = 0, 0
-            while silent < 2 and passed < 60:
+            while silent < 2 and passed < LIMIT:
                 time.sleep(0.1)
                 silent, passed = silent_for(folder, 0, 1), time.monotonic() - sent
         over(node)
         told = [line for line in lines_of(folder, 0) if others(line)]
         once = told.count(b"dpbn: fault 1202")
         right = once == 1 and all(line.startswith(b"dpbn: fault 1202") for line in told)
-        tally.add("a fault that comes again", "" if again and right else f"{told[:5]}")
+        tally.add("a fault that comes again", "" if again and right else shown(told[-5:]))
         tally.add("since when a member is silent", "" if 2 <= silent <= passed else f"for {silent} s, and {passed:.1f} s passed")
 
 
 def run(tally):
-    for one in (keys, runs, believed, forged, flipped, strangers_of_the_run, replayed, repeated, faults_again, beside_a_flood):
-        one(tally)
+    for one in (keys, runs, folders, unread, believed, forged, flipped, strangers_of_the_run, replayed, repeated, faults_again, beside_a_flood):
+        tally.case(one)
     nodes.kills(tally, 20, 2, sealing=True)

@@ -1,7 +1,7 @@
 """tools/build-over-ssh: a build on another host, by an ssh that is played (tests/played-ssh), and by a real sshd on loopback, if the machine
 has one. Jobs are cancelled, drivers killed and lines broken in each step: then nothing runs on the host any more ten seconds later."""
-import concurrent.futures
 import contextlib
+import functools
 import getpass
 import os
 import shutil
@@ -13,21 +13,23 @@ import time
 from typing import Dict, Iterator, List, Optional
 
 from topics import played
+from topics.nodes import beside
 from topics.tally import TESTS, TOP, contents
 
-LIMIT = 120
+LIMIT = 300
 # how long something may go on running on the host, in seconds, and what a loaded machine may take in addition
 MOST, MORE = 10, 10
 HOSTS = ("ob1:2", "ob2:2")
 # what builds there: it says what it was given, and waits as long as the file `wait` has; two builds at once at a place are noted
 BUILD = r"""#!/bin/sh
 mkdir "$HOME/at.$SLOT" || echo twice >> "$HOME/twice"
+[ ! -e "$HOME/wait" ] || seconds=$(cat "$HOME/wait")
 echo $$ >> "$HOME/pids"
 [ ! -e "$HOME/deaf" ] || trap '' TERM
 for word; do echo "word [$word]"; done
 echo "PKGPATH [$PKGPATH] PACKAGES [$PACKAGES] HOST [$HOST] SLOT [$SLOT]"; cat "$JOB" "$NAMES"; pwd
 (sleep 600 & echo $! >> "$HOME/pids")
-[ ! -e "$HOME/wait" ] || sleep "$(cat "$HOME/wait")" &
+[ ! "$seconds" ] || sleep "$seconds" &
 wait $!
 for path in $PACKAGES; do
 	folder=$OUT/$(echo "$path" | tr / :)
@@ -121,15 +123,18 @@ class Place:
                         return name
         return ""
 
-    def is_quiet(self, seconds: float = MOST) -> str:
-        """Nothing, if nothing runs on the host within these seconds, and what a loaded machine takes; else what runs."""
-        end = time.monotonic() + seconds + MORE
-        while self.running() and time.monotonic() < end:
+    def becomes_quiet(self, tally, name: str, seconds: float = MOST) -> bool:
+        """Whether nothing runs on the host after a while. Another check is that the while is as short as it is to be."""
+        began = time.monotonic()
+        while self.running() and time.monotonic() < began + LIMIT:
             time.sleep(.2)
-        return "\n".join(self.running())
+        took, left = time.monotonic() - began, self.running()
+        tally.add(f"{name}, what runs on", "\n".join(left))
+        tally.add(f"{name}, how soon it ends", "" if took < seconds + MORE else f"after {took:.0f} s", timed=True)
+        return not left
 
 
-def until(holds, seconds: float = 60) -> bool:
+def until(holds, seconds: float = LIMIT) -> bool:
     end = time.monotonic() + seconds
     while not holds() and time.monotonic() < end:
         time.sleep(.05)
@@ -156,7 +161,7 @@ TOLD = ["word [it's]", "word [a  b]", "word []", "PKGPATH [x/y's] PACKAGES [x/y,
 
 
 def built(place: Place) -> str:
-    """What is wrong with what came back, if anything."""
+    """What is wrong with the packages that came back, if anything."""
     out = place.out()
     if sorted(out) != ["x:y,-docs/all", "x:y,-docs/saw", "x:y,-main/all", "x:y,-main/saw"] or out["x:y,-main/saw"].decode() != SAW:
         return f"it made {sorted(out)}; {place.log()[-600:]}"
@@ -164,15 +169,15 @@ def built(place: Place) -> str:
 
 
 def a_build(tally) -> None:
-    """What COMMAND is given and finds, what comes back, and what is sent: each file once."""
+    """What COMMAND is given and finds, what is returned, and what is sent: each file once."""
     with laid() as place:
         status = place.run()
         tally.add("build-over-ssh", f"status {status}; {place.log()[-600:]}" if status else built(place))
         lacking = [line for line in TOLD if line not in place.log()]
-        tally.add("build-over-ssh, what the command is told", f"{lacking} isn't in {place.log()[-900:]}" if lacking else "")
+        tally.add("build-over-ssh, what the command gets", f"{lacking} isn't in {place.log()[-900:]}" if lacking else "")
         cache = os.listdir(f"{place.hosts}/ob2/build-over-ssh/cache")
         tally.add("build-over-ssh, what is sent", "" if len(cache) == 3 and place.calls("take") == 1 else f"{cache}, {place.calls('take')}")
-        tally.add("build-over-ssh, what is left running", place.is_quiet(0))
+        place.becomes_quiet(tally, "build-over-ssh", 0)
         place.empty_out()
         status = place.run()
         tally.add("build-over-ssh again, which sends nothing", f"status {status}" if status or place.calls("take") != 1 else built(place))
@@ -222,7 +227,7 @@ def away(tally) -> None:
         place.file("down", "")
         status = place.run("--wait", "0")
         tally.add("build-over-ssh to a host that is away", "" if status == 75 and "ob2 is away" in place.log() else f"status {status}; {place.log()[-300:]}")
-        place.start("--wait", "60")
+        place.start("--wait", "250")
         time.sleep(2)
         os.remove(f"{place.hosts}/down")
         status = place.ended()
@@ -230,7 +235,7 @@ def away(tally) -> None:
 
 
 def free_places(tally) -> None:
-    """Where the driver doesn't say which place this is, each job takes one that is free."""
+    """If the driver doesn't say which place this is, each job takes one that is free."""
     if not shutil.which("flock"):
         tally.skip("build-over-ssh without SLOT", "there is no flock here")
         return
@@ -252,8 +257,8 @@ def free_places(tally) -> None:
 
 
 def cancelled(tally, how: str, is_deaf: bool) -> None:
-    """The job is taken away while it builds: by a signal to the group, as build-jobs does, to the program alone, as timeout(1) does, or
-    because it, or its ssh, or its driver is killed."""
+    """The job is taken away while it builds: by a signal to the group, as build-jobs does, or to the program only, as timeout(1) does. Or it,
+    its ssh or its driver is killed."""
     with laid() as place:
         place.file("ob2/wait", "600")
         if is_deaf:
@@ -268,7 +273,8 @@ def cancelled(tally, how: str, is_deaf: bool) -> None:
         if how == "a killed ssh":
             broken_client(place)
             status: Optional[int] = place.ended()
-            problem = place.is_quiet() or ("" if status == 0 else f"status {status}; {place.log()[-300:]}")
+            place.becomes_quiet(tally, f"build-over-ssh, {how}")
+            problem = "" if status == 0 else f"status {status}; {place.log()[-300:]}"
             # the killed build left its mark
             os.remove(f"{place.hosts}/ob2/twice")
             tally.add(f"build-over-ssh, {how}", problem or built(place))
@@ -278,12 +284,13 @@ def cancelled(tally, how: str, is_deaf: bool) -> None:
             time.sleep(4)
             goes_on = bool(place.running())
             os.killpg(int(contents(f"{place.folder}/group")), signal.SIGKILL)
-            tally.add(f"build-over-ssh, {how}", ("" if goes_on else "it ended") or place.is_quiet())
+            tally.add(f"build-over-ssh, {how}", "" if goes_on else "it ended")
+            place.becomes_quiet(tally, f"build-over-ssh, {how}")
             return
-        problem = place.is_quiet()
         name = f"build-over-ssh, {how}{', of a build that ignores TERM' if is_deaf else ''}"
-        tally.add(name, problem if began else f"no build began; {place.log()[-300:]}")
-        tally.add(f"{name}, what came back", f"{sorted(place.out())}" if place.out() else "")
+        tally.add(name, "" if began else f"no build began; {place.log()[-300:]}")
+        place.becomes_quiet(tally, name)
+        tally.add(f"{name}, the packages that came back", f"{sorted(place.out())}" if place.out() else "")
 
 
 def driving(place: Place, *options: str) -> "subprocess.Popen[bytes]":
@@ -330,15 +337,17 @@ def broken_line(tally, step: str, count: int, how: str) -> None:
     with laid() as place:
         place.file("cut", f"{step} {count} {how} 9")
         status = place.run("--wait", "0")
-        problem = place.is_quiet() or ("" if status == 75 and not place.out() else f"status {status}, {sorted(place.out())}; {place.log()[-300:]}")
-        tally.add(f"build-over-ssh, a line that breaks in step {step} after {count} bytes, {how}", problem)
+        name = f"build-over-ssh, a line that breaks in step {step} after {count} bytes, {how}"
+        place.becomes_quiet(tally, name)
+        tally.add(name, "" if status == 75 and not place.out() else f"status {status}, {sorted(place.out())}; {place.log()[-300:]}")
         place.file("cut", f"{step} {count} {how} 1")
         # what was built when the line broke left its mark
         shutil.rmtree(f"{place.hosts}/ob2/at.0", ignore_errors=True)
-        status = place.run("--wait", "60")
+        status = place.run("--wait", "250")
         with contextlib.suppress(FileNotFoundError):
             os.remove(f"{place.hosts}/ob2/twice")
-        tally.add(f"build-over-ssh, the same, once", (f"status {status}; {place.log()[-300:]}" if status else built(place)) or place.is_quiet())
+        tally.add(f"{name}, once", f"status {status}; {place.log()[-300:]}" if status else built(place))
+        place.becomes_quiet(tally, f"{name}, once")
 
 
 def one_at_a_time(tally) -> None:
@@ -385,9 +394,11 @@ def driven(tally) -> None:
                     driver.process.wait(LIMIT)
                 else:
                     os.unlink(f"{node.work}/jobs/{name}")
-                quiet = until(lambda: not alive(f"{place.hosts}/ob1/pids"), MOST + MORE)
-                marks = os.listdir(f"{node.work}/failed")
+                since = time.monotonic()
+                quiet = until(lambda: not alive(f"{place.hosts}/ob1/pids"))
+                took, marks = time.monotonic() - since, os.listdir(f"{node.work}/failed")
                 tally.add(f"build-over-ssh with build-jobs, {how}", "" if began and quiet and not marks else f"{began} {quiet} {marks} {driver.lines()}")
+                tally.add(f"build-over-ssh with build-jobs, {how}, how soon it ends", "" if took < MOST + MORE else f"after {took:.0f} s", timed=True)
             with contextlib.suppress(FileNotFoundError):
                 os.rmdir(f"{place.hosts}/ob1/at.0")
 
@@ -410,23 +421,32 @@ def free_port() -> int:
         return int(it.getsockname()[1])
 
 
+def started_sshd(folder: str, port: int) -> "subprocess.Popen[bytes]":
+    with open(f"{folder}/sshd_config", "w", encoding="utf-8") as file:
+        file.write(f"Port {port}\nListenAddress 127.0.0.1\nHostKey {folder}/host\nAuthorizedKeysFile {folder}/authorized\nPidFile none\nStrictModes no\nUsePAM no\n"
+                   f"PasswordAuthentication no\nKbdInteractiveAuthentication no\nPermitRootLogin prohibit-password\nSetEnv HOME={folder}/home PATH={folder}/hosts/bin:/usr/bin:/bin\n")
+    with open(f"{folder}/sshd.log", "wb") as log:
+        words = [str(shutil.which("sshd", path="/usr/sbin:/usr/bin")), "-D", "-e", "-f", f"{folder}/sshd_config"]
+        return subprocess.Popen(words, stdin=subprocess.DEVNULL, stdout=log, stderr=log)
+
+
 @contextlib.contextmanager
 def real_sshd(folder: str) -> Iterator[str]:
     """An sshd on loopback with keys of its own, and the words that call it."""
     for name in ("host", "user"):
         subprocess.run(["ssh-keygen", "-q", "-t", "ed25519", "-N", "", "-f", f"{folder}/{name}"], check=True)
     shutil.copyfile(f"{folder}/user.pub", f"{folder}/authorized")
-    port = free_port()
-    with open(f"{folder}/sshd_config", "w", encoding="utf-8") as file:
-        file.write(f"Port {port}\nListenAddress 127.0.0.1\nHostKey {folder}/host\nAuthorizedKeysFile {folder}/authorized\nPidFile none\nStrictModes no\nUsePAM no\n"
-                   f"PasswordAuthentication no\nKbdInteractiveAuthentication no\nPermitRootLogin prohibit-password\nSetEnv HOME={folder}/home PATH={folder}/hosts/bin:/usr/bin:/bin\n")
     os.makedirs(f"{folder}/home")
     if os.geteuid() == 0:
         os.makedirs("/run/sshd", exist_ok=True)
-    with open(f"{folder}/sshd.log", "wb") as log:
-        server = subprocess.Popen([str(shutil.which("sshd", path="/usr/sbin:/usr/bin")), "-D", "-e", "-f", f"{folder}/sshd_config"], stdin=subprocess.DEVNULL, stdout=log, stderr=log)
+    for _ in range(20):
+        port = free_port()
+        server = started_sshd(folder, port)
+        until(lambda: server.poll() is not None or b"listening on" in contents(f"{folder}/sshd.log"))
+        # else somebody else took the port meanwhile
+        if server.poll() is None:
+            break
     try:
-        until(lambda: b"listening on" in contents(f"{folder}/sshd.log"), 20)
         yield (f"ssh -F none -p {port} -i {folder}/user -o IdentitiesOnly=yes -o UserKnownHostsFile={folder}/known -o StrictHostKeyChecking=no "
                f"-o BatchMode=yes -o LogLevel=ERROR -o HostName=127.0.0.1 -l {getpass.getuser()}")
     finally:
@@ -454,15 +474,14 @@ def real(tally) -> None:
             place.start(*options)
             began = until(lambda: place.builds() and contents(f"{place.hosts}/ob2/pids").count(b"\n") == 2)
             end(place, None, how)
-            tally.add(f"build-over-ssh with an sshd, {how}", place.is_quiet() if began else f"no build began; {place.log()[-300:]}")
+            tally.add(f"build-over-ssh with an sshd, {how}", "" if began else f"no build began; {place.log()[-300:]}")
+            place.becomes_quiet(tally, f"build-over-ssh with an sshd, {how}")
 
 
 def run(tally) -> None:
-    parts = [(driven,), (a_build,), (statuses,), (refused,), (away,), (free_places,), (one_at_a_time,), (real,)]
-    parts += [(cancelled, how, is_deaf) for how in ("cancelled", "a timeout", "killed with its group", "killed alone") for is_deaf in (False, True)]
-    parts += [(cancelled, how, False) for how in ("a killed driver", "a killed driver, outlived", "a killed ssh")]
-    parts += [(broken_line, step, count, how) for step, count in (("begin", 0), ("begin", 100), ("take", 1000), ("run", 300), ("run", 580), ("out", 0), ("out", 1000))
-              for how in ("close", "silent")]
-    with concurrent.futures.ThreadPoolExecutor(6) as pool:
-        for done in [pool.submit(tally.run, f"build-over-ssh {part[0].__name__}", *part) for part in parts]:
-            done.result()
+    cases = [driven, a_build, statuses, refused, away, free_places, one_at_a_time, real]
+    cases += [functools.partial(cancelled, how=how, is_deaf=is_deaf) for how in ("cancelled", "a timeout", "killed with its group", "killed alone") for is_deaf in (False, True)]
+    cases += [functools.partial(cancelled, how=how, is_deaf=False) for how in ("a killed driver", "a killed driver, outlived", "a killed ssh")]
+    cases += [functools.partial(broken_line, step=step, count=count, how=how)
+              for step, count in (("begin", 0), ("begin", 100), ("take", 1000), ("run", 300), ("run", 580), ("out", 0), ("out", 1000)) for how in ("close", "silent")]
+    beside(tally, cases, 6)

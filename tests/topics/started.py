@@ -8,6 +8,7 @@ import shutil
 import subprocess
 import tempfile
 
+from topics.explained import explains
 from topics.tally import EXAMPLES, PROGRAM, TESTS, TOP, contents, difference
 
 # in the place of tools/prove: it notes what is asked of it, and makes programs that print their words
@@ -21,14 +22,14 @@ done
 """
 BUILT = {"dpbr": PROGRAM, "dpbn": f"{TOP}/crates/dpbn/out/dpbn"}
 SMALL = f"{TOP}/crates/dpbr_quick/out/dpbr_quick"
-CALLS = {"dpbr": ("status", "audit", "run", "wayon"), "dpbn": ("node", "cluster", "build", "key")}
-# words that are no subcommands, some of them like one, two or three, one in letters of two bytes, and one with words after it
+CALLS = {"dpbr": ("status", "audit", "run", "wayon", "explain"), "dpbn": ("node", "cluster", "build", "key", "explain")}
+# words that aren't subcommands, some of them like one, two or three, one in letters of two bytes, and one with words after it
 UNKNOWN = ("state", "stat", "statu", "statusaudit", "audits", "tidua", "rum", "nur", "ran", "way", "wayo", "yawno", "hello", "hel", "x", "", "a b",
            "stätus", "nodes", "nod", "done", "clusters", "kluster", "built", "bild", "keys", "ky", "eky", "'", "\n", "WORD", "status\n")
 
 
 def run_in(folder, program, *words, **more):
-    done = subprocess.run([program, *words], cwd=folder, stdin=subprocess.DEVNULL, capture_output=True, timeout=120, **more)
+    done = subprocess.run([program, *words], cwd=folder, stdin=subprocess.DEVNULL, capture_output=True, timeout=600, **more)
     return done.stdout, done.stderr, done.returncode
 
 
@@ -47,7 +48,7 @@ def stored_texts(tally):
 
 @contextlib.contextmanager
 def checkout():
-    """A checkout of the scripts alone, where nothing is proved and nothing built."""
+    """A checkout of only the scripts, in which nothing is proved and nothing built."""
     with tempfile.TemporaryDirectory() as folder:
         os.mkdir(f"{folder}/crates")
         shutil.copytree(f"{TOP}/tools", f"{folder}/tools")
@@ -69,21 +70,22 @@ def asked(folder):
 
 
 def starts(tally):
-    """Help is answered with nothing built; `status` and `audit` build the small program and no other; each other call builds its own. What
-    is built is taken as it is, until a source is newer, and the whole program is taken if it is there."""
+    """Help is answered with nothing built; `status`, `audit`, `explain` and `--version` build the small program and no other; each other call
+    builds its own. What is built is taken as it is, until a source is newer, and the whole program is taken if it is there."""
     with checkout() as folder:
         for name, words in (("dpbr", []), ("dpbr", ["run", "--help"]), ("dpbn", ["nodes"])):
             got = run_in(folder, f"./{name}", *words)
             tally.add(f"./{name} {words} before it is built", difference(got, run_in(TOP, f"{TOP}/tools/stored-help", name, *words)))
             tally.add(f"./{name} {words}, what it proves", ", ".join(asked(folder)))
         for name, words, program, proves in (("dpbr", ["status", "a", "b"], "dpbr_quick", True), ("dpbr", ["audit", "x"], "dpbr_quick", False),
+                                             ("dpbr", ["explain", "1"], "dpbr_quick", False), ("dpbr", ["--version"], "dpbr_quick", False),
                                              ("dpbr", ["run", "a b"], "dpbr", True), ("dpbr", ["status"], "dpbr", False),
                                              ("dpbr", [], "dpbr", False), ("dpbn", ["node", "--me"], "dpbn", True), ("dpbn", ["node"], "dpbn", False)):
             out, said, status = run_in(folder, f"./{name}", *words)
             wanted = " ".join([program, *words]).encode() + b"\n"
             tally.add(f"./{name} {words}", "" if (out, status) == (wanted, 0) else f"{out!r}, {said!r}, status {status}")
             tells = b"about " in said and b" minutes" in said and program.encode() in said
-            tally.add(f"./{name} {words}, what it tells", "" if tells == proves and bool(said) == proves else f"{said!r}")
+            tally.add(f"./{name} {words}, what it says", "" if tells == proves and bool(said) == proves else f"{said!r}")
             proved = asked(folder)
             tally.add(f"./{name} {words}, what it proves", "" if proved == ([program] if proves else []) else f"{proved}")
         with open(f"{folder}/crates/source", "w") as file:
@@ -94,7 +96,7 @@ def starts(tally):
 
 
 def fails(tally):
-    """Where a proof fails, ./dpbr ends so, and so does the next call; nothing is taken for built."""
+    """If a proof fails, ./dpbr ends so, and so does the next call; nothing is taken for built."""
     with checkout() as folder:
         with open(f"{folder}/tools/prove", "w") as file:
             file.write("#!/bin/sh\necho refused >&2\nexit 1\n")
@@ -124,10 +126,10 @@ def counts(tally):
 
 
 def small(tally):
-    """The small program answers each stored status and audit as dpbr does, refuses the same words so, and says of a call that isn't its
-    own that it is the small program, with status 2."""
+    """The small program answers each stored status and audit as dpbr does, explains the same faults, and refuses the same words. Of a
+    call that isn't its own it says that it is the small program, with status 2."""
     if not os.path.exists(SMALL):
-        tally.skip("the small program of status and audit", "it isn't built: `tools/prove dpbr_quick` builds it")
+        tally.skip("the small program", "it isn't built: `tools/prove dpbr_quick` builds it")
         return
     for kind in ("status", "audit"):
         for name in sorted(os.listdir(f"{TESTS}/{kind}")):
@@ -138,7 +140,8 @@ def small(tally):
     for words in ([], ["--help"], ["status"], ["audit", "x"], ["state"], ["status", "--help"], ["run", "listing"], ["wayon", "--help"], [b"status", b"\xff"],
                   ["status", "listing", "none"], ["audit", "listing", "held"]):
         tally.add(f"the small program, {words}", difference(run_in(EXAMPLES, SMALL, *words), run_in(EXAMPLES, PROGRAM, *words)))
-    said = b"dpbr_quick: this is the small program, of status and audit alone\n"
+    explains(tally, "the small program,", lambda words: run_in(EXAMPLES, SMALL, *words), "dpbr")
+    said = b"dpbr_quick: this is the small program, without run and wayon\n"
     for words in (["run", "listing", "trace"], ["wayon", "listing", "trace", "1", "devel/gettext", "7", "builds"]):
         tally.add(f"the small program, {words}", difference(run_in(EXAMPLES, SMALL, *words), (b"", said, 2)))
     with open("/dev/full", "wb") as full:

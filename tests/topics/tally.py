@@ -1,10 +1,12 @@
 """What the topics share: where things are, how the program is run, and what passed, failed and was skipped."""
 import difflib
 import os
+import pickle
 import re
 import shlex
 import subprocess
 import traceback
+from typing import Any, Callable, Dict, Iterator, List, Optional
 
 TOP = os.path.dirname(os.path.dirname(os.path.dirname(os.path.abspath(__file__))))
 TESTS = f"{TOP}/tests"
@@ -12,44 +14,116 @@ EXAMPLES = f"{TOP}/examples"
 PROGRAM = f"{TOP}/crates/dpbr/out/dpbr"
 
 
-# how much of a difference is shown
+# how much of a difference is shown, and of what was seen of something that failed
 MOST_LINES, MOST_COLUMNS = 40, 200
+MOST_SEEN, MOST_OF_A_LINE = 80, 250
+# a part of a topic that needs nothing from those before it
+Case = Callable[["Tally"], None]
+
+
+def say(text: str) -> None:
+    """Prints a text and the end of its line in one piece, since cases may run side by side."""
+    print(f"{text}\n", end="", flush=True)
 
 
 class Tally:
     """Counts what passed, and says what failed and what was skipped."""
 
-    def __init__(self):
+    def __init__(self) -> None:
         self.passed = 0
         self.failed = 0
         # the names of those that failed
-        self.names = []
+        self.names: List[str] = []
+        # of the checks of time, whether each passed, and the case that it is in, if that can run by itself
+        self.timed: Dict[str, bool] = {}
+        self.cases: Dict[str, Optional[Case]] = {}
+        # the case that runs
+        self.current: Optional[Case] = None
         # what was not run for lack of a tool or a program, and how that is obtained
-        self.skipped = []
+        self.skipped: List[str] = []
 
-    def skip(self, name, lacking):
+    def skip(self, name: str, lacking: str) -> None:
         """Notes a part that can't be run here, with what it lacks and how that is obtained. The last lines of all tests say so once more."""
         self.skipped.append(f"{name}: {lacking}")
-        print(f"tests/run: skipped: {name}: {lacking}", flush=True)
+        say(f"tests/run: skipped: {name}: {lacking}")
 
-    def add(self, name, problem):
-        """One more test, which passed if there is no problem."""
+    def add(self, name: str, problem: str, timed: bool = False) -> None:
+        """One more test, which passed if there is no problem. A check of time is `timed`: it asks how long something takes, how much
+        of a processor, or for what follows only if processes come to run soon, and may fail on a busy machine. If it fails, its case runs
+        once more, by itself; its whole part of the tests, if it is in no case."""
+        if timed:
+            self.timed[name] = not problem and self.timed.get(name, True)
+            self.cases[name] = self.current
         if problem:
             self.failed += 1
             self.names.append(name)
-            print(f"tests/run: FAILED: {name}: {problem}", flush=True)
+            say(f"tests/run: FAILED: {name}: {problem}")
         else:
             self.passed += 1
 
-    def run(self, name, part, *more):
+    def take(self, other: "Tally") -> None:
+        """Adds what another one counted."""
+        self.passed += other.passed
+        self.failed += other.failed
+        self.names += other.names
+        self.timed.update(other.timed)
+        self.cases.update(other.cases)
+        self.skipped += other.skipped
+
+    def late(self) -> List[str]:
+        """The checks of time that failed."""
+        return [name for name, passed in self.timed.items() if not passed]
+
+    def late_cases(self) -> Optional[List[Case]]:
+        """The cases in which these are; nothing if one of them is in no case."""
+        found = [self.cases.get(name) for name in self.late()]
+        cases = [it for place, it in enumerate(found) if it and it not in found[:place]]
+        return None if None in found else cases
+
+    def correct(self, first: "Tally", second: "Tally") -> None:
+        """Counts the second run of a part whose first run was counted, since checks of time failed in it: each of them that passes now
+        has passed. Whatever else fails in one of both runs has failed."""
+        for name in first.late():
+            if second.timed.get(name):
+                self.names.remove(name)
+                self.failed -= 1
+                self.passed += 1
+        new = [name for name in second.names if name not in first.names]
+        self.names += new
+        self.failed += len(new)
+
+    def run(self, name: str, part: Callable[..., None], *more: Any) -> None:
         """Runs a part of the tests. One that breaks off is a failure, and the next one runs."""
         try:
             part(self, *more)
         except Exception as error:
             self.add(name, broken_off(error))
 
+    def case(self, one: Case) -> None:
+        """Runs a case, which may run once more by itself. One that breaks off is a failure, and the next one runs."""
+        outer, self.current = self.current, one if is_sent(one) else None
+        try:
+            self.run(name_of(one), one)
+        finally:
+            self.current = outer
 
-def broken_off(error):
+
+def is_sent(one: Case) -> bool:
+    """Whether another process can be told which case it is: one of a module, with arguments or without."""
+    try:
+        pickle.dumps(one)
+    except (pickle.PicklingError, AttributeError, TypeError):
+        return False
+    return True
+
+
+def name_of(one: Case) -> str:
+    """What a case is called: by its function, and that by its arguments."""
+    function, more = getattr(one, "func", one), {**dict(enumerate(getattr(one, "args", ()))), **getattr(one, "keywords", {})}
+    return " ".join([function.__name__.replace("_", " "), *map(str, more.values())])
+
+
+def broken_off(error: Exception) -> str:
     """Where tests broke off, and why; and what builds the program that they lack, if that is why."""
     frames = [frame for frame in traceback.extract_tb(error.__traceback__) if frame.filename.startswith(TESTS)]
     place = max(frames, key=lambda frame: (frame.filename != os.path.abspath(__file__), frames.index(frame)))
@@ -63,6 +137,36 @@ def contents(path):
         return file.read()
 
 
+class Lines(List[str]):
+    """Lines on what was seen, each of which is shown on a line of its own."""
+
+
+def lines_of(value: Any) -> Iterator[str]:
+    """What was seen as lines: what is short takes one, a list or a text of lines one for each."""
+    if isinstance(value, Lines):
+        yield from value
+    elif isinstance(value, (bytes, str)) and len(value) > MOST_OF_A_LINE:
+        text = value.decode(errors="backslashreplace") if isinstance(value, bytes) else value
+        yield from text.split("\n")
+    elif isinstance(value, dict) and len(repr(value)) > MOST_OF_A_LINE:
+        yield from (line for pair in value.items() for line in lines_of(pair))
+    elif isinstance(value, (list, tuple, set)) and (len(repr(value)) > MOST_OF_A_LINE or any(isinstance(it, Lines) for it in value)):
+        yield from (line for it in value for line in lines_of(it))
+    else:
+        yield repr(value)
+
+
+def seen(*values: Any) -> str:
+    """What was seen of something that failed, in its order: on the same line if that is short, else each line by itself. Of a line that
+    is too long the begin is shown, and of too many lines the first and the last ones."""
+    lines = [line if len(line) <= MOST_OF_A_LINE else f"{line[:MOST_OF_A_LINE]} .." for value in values for line in lines_of(value)]
+    if len(lines) > MOST_SEEN:
+        lines[MOST_SEEN // 2:-MOST_SEEN // 2] = [f".. {len(lines) - MOST_SEEN} lines .."]
+    short = " ".join(lines)
+    is_short = len(short) <= MOST_OF_A_LINE and not any(isinstance(it, Lines) for it in values)
+    return short if is_short else "\n".join(["it isn't so", *(f"    {line}" for line in lines)])
+
+
 class Answer(tuple):
     """What a program wrote to both streams, and its status; and how it is run by hand, where its folder is still there."""
 
@@ -71,7 +175,7 @@ class Answer(tuple):
 
 def answer(words, folder, **more):
     """Runs the program in the folder."""
-    done = subprocess.run([PROGRAM, *words], cwd=folder, stdin=subprocess.DEVNULL, capture_output=True, timeout=120, **more)
+    done = subprocess.run([PROGRAM, *words], cwd=folder, stdin=subprocess.DEVNULL, capture_output=True, timeout=600, **more)
     got = Answer((done.stdout, done.stderr, done.returncode))
     if folder.startswith(TOP) and not more:
         where, program = os.path.relpath(folder, TOP), os.path.relpath(PROGRAM, folder)
@@ -79,7 +183,7 @@ def answer(words, folder, **more):
     return got
 
 
-def cut(line):
+def cut(line: str) -> str:
     """A line that is not too long to be looked at."""
     return line if len(line) <= MOST_COLUMNS else f"{line[:MOST_COLUMNS]} .. ({len(line)} bytes)"
 

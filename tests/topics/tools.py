@@ -15,8 +15,8 @@ import tempfile
 import time
 import xml.dom.minidom
 
-from topics import driver, packages, versions
-from topics.tally import EXAMPLES, TESTS, TOP, Answer, answer, contents, difference
+from topics import packages, versions
+from topics.tally import EXAMPLES, PROGRAM, TESTS, TOP, Answer, answer, contents, difference
 
 ROW, MOST_HEIGHT = 24, 1700
 # of this many packages' builds pictures are drawn that fold their events
@@ -28,23 +28,9 @@ MOST_SPARED = MOST - 1_048_576
 UNIT = "a/b,-docs.FULLPKGNAME=b-docs-1\na/b,-main.FULLPKGNAME=b-1\n"
 
 
-def asked_of(listing, trace, is_single):
-    """What draw-trace asks the driver `probes` about a trace over a listing."""
-    return f"== worlds\n{'singles' if is_single else 'steps'} {listing.hex()} {trace.hex()}\n".encode()
-
-
-def drawn(*words):
-    """What draw-trace prints, with the driver's answers in place of its program: so its sources are compiled once for all
-    pictures, if it isn't built."""
-    asked = asked_of(*map(contents, words[-2:]), "--single" in words)
-    with tempfile.TemporaryDirectory() as folder:
-        program = f"{folder}/probes"
-        with open(f"{program}.answer", "wb") as file:
-            file.write(driver.answer(asked))
-        with open(program, "w") as file:
-            file.write('#!/bin/sh\ncat > /dev/null\nexec cat "$0.answer"\n')
-        os.chmod(program, 0o755)
-        return subprocess.run([f"{TOP}/tools/draw-trace", *words], capture_output=True, timeout=120, env={**os.environ, "PROBES": program})
+def drawn(*words, **more):
+    """What draw-trace prints, of what the built dpbr prints or of a file."""
+    return subprocess.run([f"{TOP}/tools/draw-trace", *words], capture_output=True, timeout=600, **more)
 
 
 def life(n):
@@ -127,18 +113,6 @@ def covered(svg):
     return sorted(lies), len(places)
 
 
-def drawings():
-    """The listings and traces of which pictures are drawn, and whether each path is built by itself."""
-    yield contents(f"{EXAMPLES}/listing"), contents(f"{EXAMPLES}/trace"), False
-    for listing, trace in (builds(1, 10), *(builds(count, 12 * count) for count in FOLDED)):
-        yield listing.encode(), json.dumps(trace).encode(), False
-    for is_single in (False, True):
-        yield UNIT.encode(), json.dumps(lone()).encode(), is_single
-
-
-driver.ask(lambda: [asked_of(*drawing) for drawing in drawings()])
-
-
 def pictures(tally):
     """The README's picture is the example's, shows the promise that reports a vote, and has its words at free places. Ten
     events have a row each, and a thousand, or twenty thousand, are folded into a picture of some rows."""
@@ -159,6 +133,8 @@ def pictures(tally):
         tally.add(name, "" if told == (10, 1, 7, False, True) else f"{told} in {height} pixels")
     for count in FOLDED:
         folded(tally, count)
+    kept_lines(tally)
+    stopped_run(tally)
     for words, wanted in ((), (0, 1)), (("--single",), (1, 0)):
         name = " ".join(["draw-trace", *words, "of one package of two"])
         svg, _ = picture(tally, name, UNIT, lone(), *words)
@@ -167,9 +143,44 @@ def pictures(tally):
             tally.add(name, "" if told == wanted else f"{told}, not {wanted}")
 
 
+def kept_lines(tally):
+    """The picture is the same of lines that were kept, in a file or on standard input. Lines of another trace make none."""
+    names = f"{EXAMPLES}/listing", f"{EXAMPLES}/trace"
+    told = subprocess.run([PROGRAM, "run", "--events", *names], capture_output=True, timeout=600, check=True).stdout
+    wanted = (contents(f"{EXAMPLES}/take-over.svg"), b"", 0)
+    with tempfile.TemporaryDirectory() as folder:
+        texts = {"events": told, "fewer": told.split(b"event 19 ")[0], "odd": told.replace(b" noted held", b" notes held")}
+        for name, text in texts.items():
+            with open(f"{folder}/{name}", "wb") as file:
+                file.write(text)
+        done = drawn("--events", f"{folder}/events", names[1])
+        tally.add("draw-trace --events", difference((done.stdout, done.stderr, done.returncode), wanted))
+        done = drawn("--events", "-", names[1], input=told)
+        tally.add("draw-trace --events -", difference((done.stdout, done.stderr, done.returncode), wanted))
+        for name, why in (("fewer", b"there are lines of 18 events, and the trace has 19"), ("odd", b"has 'notes', which begins no part of it")):
+            done = drawn("--events", f"{folder}/{name}", names[1])
+            right = done.returncode == 1 and not done.stdout and done.stderr.startswith(b"draw-trace: ") and why in done.stderr
+            tally.add(f"draw-trace --events, {name} lines", "" if right else f"status {done.returncode}, {done.stderr!r}")
+
+
+def stopped_run(tally):
+    """The picture of a trace with a refused event ends with that, in red, and says so. A listing with a fault has none."""
+    with tempfile.TemporaryDirectory() as folder:
+        for name, text in (("listing", UNIT), ("trace", json.dumps(lone())), ("bad", "a/b,-docs\n")):
+            with open(f"{folder}/{name}", "w") as out:
+                out.write(text)
+        done = drawn(f"{folder}/listing", f"{folder}/trace")
+        said = b"draw-trace: event 4 is refused, with fault 910: the picture ends there\n"
+        right = done.returncode == 0 and done.stderr == said and b"refused: 910" in done.stdout and b"deliver 2" not in done.stdout
+        tally.add("draw-trace of a refused event", "" if right else f"status {done.returncode}, {done.stderr!r}")
+        done = drawn(f"{folder}/bad", f"{folder}/trace")
+        right = (done.returncode, done.stdout, done.stderr) == (1, b"", b"draw-trace: dpbr: fault 401 at 1\n")
+        tally.add("draw-trace of a bad listing", "" if right else f"status {done.returncode}, {done.stderr!r}")
+
+
 def folded(tally, count):
-    """A picture of the builds of this many packages, of twelve events each: a page, whose bars represent all of them, with its words where
-    nothing else is and how the list grew."""
+    """A picture of the builds of this many packages, of twelve events each: a page, whose bars represent all of them, with its words at
+    free places, and how the list grew."""
     name = f"draw-trace of {12 * count} events"
     svg, height = picture(tally, name, *builds(count, 12 * count))
     if svg:
@@ -181,7 +192,7 @@ def folded(tally, count):
 
 def asked(tool, file):
     """What a tool answers to a stored file."""
-    done = subprocess.run([f"{TOP}/tools/{tool}", file], capture_output=True, timeout=120)
+    done = subprocess.run([f"{TOP}/tools/{tool}", file], capture_output=True, timeout=600)
     got = Answer((done.stdout, done.stderr, done.returncode))
     got.by_hand = f"tools/{tool} {os.path.relpath(file, TOP)}"
     return got
@@ -324,7 +335,7 @@ def unread(tally):
     if os.geteuid() or sys.platform == "linux":
         with laid({"a:b/x": b"x", "c:d/x": b"x"}) as folder:
             os.chmod(f"{folder}/c:d/x", 0)
-            done = subprocess.run([f"{TOP}/tools/make-builds", folder], capture_output=True, timeout=120, preexec_fn=forbidden)
+            done = subprocess.run([f"{TOP}/tools/make-builds", folder], capture_output=True, timeout=600, preexec_fn=forbidden)
             told = done.stdout == b"" and b"Permission denied" in done.stderr and done.returncode == 1
             tally.add("make-builds of a file that can't be read", "" if told else f"{done.stdout!r:.200} {done.stderr!r:.200}, status {done.returncode}")
     for name, link, to in (("a link to a file", "a:b/y", "a:b/x"), ("a link to a folder", "a:b/y", "a:b/z"), ("a link to a package", "c:d", "a:b"), ("a link to nothing", "y", "none")):
@@ -345,7 +356,7 @@ def odd_package(tally):
     odd = packages.record("c/d", "d-2", [("x", b"x"), ("x/y", b"y")], built=[packages.MAIN_LINE])
     with tempfile.TemporaryDirectory() as folder:
         said = packages.unpacked(folder, packages.log([packages.HELD_UNIT, packages.note(4, "c/d", packages.build(odd))]))
-        told = b"unpack-log: c/d has its record alone, as @record: what x/y lies in is a file\n"
+        told = b"unpack-log: c/d has only its record, as @record: the folder of x/y is a file\n"
         tally.add("unpack-log of a file in a file", difference(said, (b"", told, 0)))
         got = packages.files_in(f"{folder}/out")
     docs, line = (packages.signed(*it) for it in (("a/b,-docs", "b-docs-1", packages.DOCS), ("c/d", "d-2", odd)))
@@ -370,29 +381,38 @@ def unpacking(folder, text):
     return tool
 
 
+def ended_by(number, text):
+    """Sends unpack-log a signal while it writes. Gives its status, what it printed, and what is left in the folder some time later."""
+    for _ in range(20):
+        with tempfile.TemporaryDirectory() as folder:
+            tool = unpacking(folder, text)
+            tool.send_signal(number)
+            said, end = tool.communicate(timeout=600), time.monotonic() + 300
+            # what a killed one leaves is removed by another process
+            while tool.returncode < 0 and os.listdir(folder) != ["log"] and time.monotonic() < end:
+                time.sleep(0.01)
+            left = os.listdir(folder)
+        # else it had ended before: on a busy machine the signal may come late
+        if tool.returncode:
+            break
+    return tool.returncode, said, left
+
+
 def disturbed(tally):
     """A signal leaves nothing, and a log that is cut while it is looked at is unpacked as it was."""
     large = bytes(4_000_000)
     paths = [f"p/n{n}" for n in range(20)]
     text = packages.log([packages.note(4, path, packages.build(packages.record(path, "n-1", [("x", large)]))) for path in paths])
     for number in SIGNALS:
-        with tempfile.TemporaryDirectory() as folder:
-            tool = unpacking(folder, text)
-            tool.send_signal(number)
-            said, left = tool.communicate(timeout=120), os.listdir(folder)
-            tally.add(f"unpack-log, ended by {number.name}", "" if (said, tool.returncode, left) == ((b"", b""), 128 + number, ["log"]) else f"{said}, status {tool.returncode}, left {left}")
-    with tempfile.TemporaryDirectory() as folder:
-        tool = unpacking(folder, text)
-        tool.kill()
-        tool.communicate(timeout=120)
-        end = time.monotonic() + 60
-        while os.listdir(folder) != ["log"] and time.monotonic() < end:
-            time.sleep(0.01)
-        tally.add("unpack-log, killed", "" if os.listdir(folder) == ["log"] else f"left {os.listdir(folder)}")
+        status, said, left = ended_by(number, text)
+        right = (said, status, left) == ((b"", b""), 128 + number, ["log"])
+        tally.add(f"unpack-log, ended by {number.name}", "" if right else f"{said}, status {status}, left {left}")
+    _, _, left = ended_by(signal.SIGKILL, text)
+    tally.add("unpack-log, killed", "" if left == ["log"] else f"left {left}")
     with tempfile.TemporaryDirectory() as folder:
         tool = unpacking(folder, text)
         os.truncate(f"{folder}/log", 50)
-        _, said = tool.communicate(timeout=120)
+        _, said = tool.communicate(timeout=600)
         got = packages.files_in(f"{folder}/out") if tool.returncode == 0 else {}
         # it was read to its end by then, or is refused
         right = os.listdir(folder) == ["log"] and b" isn't whole at " in said and said.count(b"\n") == 1 if tool.returncode == 1 else \
@@ -424,7 +444,7 @@ def flat(tally):
         write(log, packages.log([packages.note(4, "c/d", packages.build(odd))]))
         packages.tool("unpack-log", "--flat", log, f"{folder}/other")
         got = packages.files_in(f"{folder}/other")
-        tally.add("unpack-log --flat of a record alone", "" if got.get("@record.c:d") == odd and len(got) == 3 else f"{sorted(got)}")
+        tally.add("unpack-log --flat of only a record", "" if got.get("@record.c:d") == odd and len(got) == 3 else f"{sorted(got)}")
 
 
 def write(path, text):
@@ -455,17 +475,17 @@ def linked(tally):
 
 
 def in_parts(tally):
-    """A log of 160 MB is unpacked where a program may have 120 MiB of memory, and where a full disk ends it nothing is left."""
+    """A log of 160 MB is unpacked by a program that may have 120 MiB of memory. If a full disk ends it nothing is left."""
     large = os.urandom(4_000_000)
     notes = [packages.note(4, f"p/n{n}", packages.build(packages.record(f"p/n{n}", "n-1", [("x", large)]))) for n in range(40)]
     with tempfile.TemporaryDirectory() as folder:
         write(f"{folder}/log", packages.log(notes))
         limited = lambda: resource.setrlimit(resource.RLIMIT_AS, (120 << 20, 120 << 20))
-        done = subprocess.run([f"{TOP}/tools/unpack-log", f"{folder}/log", f"{folder}/out"], capture_output=True, timeout=120, preexec_fn=limited)
+        done = subprocess.run([f"{TOP}/tools/unpack-log", f"{folder}/log", f"{folder}/out"], capture_output=True, timeout=600, preexec_fn=limited)
         sizes = [os.path.getsize(f"{folder}/out/p:n{n}/x") for n in range(40)] if done.returncode == 0 else []
         tally.add("unpack-log of 160 MB in 120 MiB", "" if sizes == [4_000_000] * 40 else f"{done.stderr!r}, status {done.returncode}")
         short = lambda: resource.setrlimit(resource.RLIMIT_FSIZE, (1 << 20, 1 << 20))
-        done = subprocess.run([f"{TOP}/tools/unpack-log", f"{folder}/log", f"{folder}/other"], capture_output=True, timeout=120, preexec_fn=short)
+        done = subprocess.run([f"{TOP}/tools/unpack-log", f"{folder}/log", f"{folder}/other"], capture_output=True, timeout=600, preexec_fn=short)
         right = done.returncode == 1 and done.stderr.startswith(b"unpack-log: ") and sorted(os.listdir(folder)) == ["log", "out"]
         tally.add("unpack-log that can't write", "" if right else f"{done.stderr!r}, status {done.returncode}, left {os.listdir(folder)}")
 
@@ -478,7 +498,7 @@ def synced(tally):
     with tempfile.TemporaryDirectory() as folder:
         write(f"{folder}/log", packages.log(packages.NOTES))
         words = ["strace", "-f", "-y", "-e", "trace=fsync,rename,renameat,renameat2", "-o", f"{folder}/calls", f"{TOP}/tools/unpack-log", f"{folder}/log", f"{folder}/out"]
-        done = subprocess.run(words, capture_output=True, timeout=120)
+        done = subprocess.run(words, capture_output=True, timeout=600)
         before, _, after = contents(f"{folder}/calls").decode().partition("rename")
         count = len(packages.FILES) + len([it for it in os.listdir(f"{folder}/out") if ":" in it]) + 2
         right = done.returncode == 0 and before.count("fsync(") == count and after.count("fsync(") == 1
@@ -499,13 +519,17 @@ def case(tally, kind, name):
     STORED[kind](tally, name)
 
 
-def run(tally):
-    for kind in STORED:
-        for name in sorted(os.listdir(f"{TESTS}/{kind}")):
-            tally.run(f"{kind}/{name}", case, kind, name)
+def run_without_programs(tally):
     shown(tally)
     tally.run("packages", packages.run)
     versions.run(tally)
     brought(tally)
     taken_away(tally)
+
+
+def run(tally):
+    for kind in STORED:
+        for name in sorted(os.listdir(f"{TESTS}/{kind}")):
+            tally.run(f"{kind}/{name}", case, kind, name)
+    packages.audited(tally)
     tally.run("pictures", pictures)

@@ -1,14 +1,20 @@
 """Stored cases of `dpbr run`, and traces and BUILDS whose memory runs out: each allocation of some rows on traces
 refused in turn. The answer is then the right one, or that memory ran out, or the program ends. These rows need the program `probes`
 as it is built: `tools/prove probes` builds it, for who changes crate `traces` or one below it; without it they are skipped."""
+import json
 import os
 import subprocess
+import sys
 import tempfile
 
 from topics.driver import PROBES, is_built
 from topics.memory import refusing
 from topics.programs import stored_cases
-from topics.tally import built_shim, text_difference
+from topics.tally import TESTS, TOP, answer, built_shim, contents, difference, text_difference
+
+sys.path.insert(0, f"{TOP}/tools")
+
+from dpbn_tools import event_lines  # noqa: E402
 
 # The folders of stored cases of `dpbr run`: those whose builds go out in several pieces are separate.
 STORED = ("traces", "pieces")
@@ -31,7 +37,7 @@ ROWS = {
 
 
 def run_probe(row, **more):
-    done = subprocess.run([PROBES], input=b"== traces\n" + row + b"\n", capture_output=True, timeout=60, **more)
+    done = subprocess.run([PROBES], input=b"== traces\n" + row + b"\n", capture_output=True, timeout=600, **more)
     return done.stdout, done.returncode
 
 
@@ -54,8 +60,54 @@ def refused_in_turn(tally, folder, name, row):
     tally.add(f"memory for {name}", "" if right[1] == 0 and (b"1\n", 0) in met else "no reading was refused memory")
 
 
+def node_of(event):
+    return event.get("input", event)["node"]
+
+
+def problem(events, members, packages, lines):
+    """What is wrong with the lines of these events, by which the packages of these paths become agreed; or nothing."""
+    if len(lines) != len(events):
+        return f"{len(lines)} lines of {len(events)} events"
+    count, agreed = 0, []
+    for number, (event, line) in enumerate(zip(events, lines), 1):
+        inner = event.get("input", event)
+        if line.node != node_of(event) or inner.get("datagram", -1) >= count:
+            return f"event {number}: {line}, and {count} datagrams were sent before"
+        if (event["event"] in ("stop", "restart") and (line.noted or line.sent)) or (event["event"] == "stopin" and line.sent):
+            return f"event {number}: {line} of a {event['event']}"
+        if event["event"] == "stopin" and event["left"] != "whole" and line.noted:
+            return f"event {number}: {line}, and a note that isn't whole"
+        for sent in line.sent:
+            if sent.number > count or not sent.receivers or list(sent.receivers) != sorted(set(sent.receivers)) or sent.receivers[-1] >= members:
+                return f"event {number}: {sent}, and {count} datagrams were sent before"
+            count = max(count, sent.number + 1)
+        agreed += line.agreed
+    return "" if agreed == packages else f"{agreed} is agreed, not {packages}"
+
+
+def events(tally):
+    """The lines of the events of all stored cases. Those of one are stored, besides the examples of dpbr(1)."""
+    for kind in STORED:
+        for name in sorted(os.listdir(f"{TESTS}/{kind}")):
+            folder = f"{TESTS}/{kind}/{name}"
+            words = contents(f"{folder}/words").decode().split()
+            stored = contents(f"{folder}/stdout"), contents(f"{folder}/stderr"), int(contents(f"{folder}/status"))
+            got = answer([words[0], "--events", *words[1:]], folder)
+            if stored[2]:
+                tally.add(f"{kind}/{name}, --events", difference(got, stored))
+                continue
+            trace = json.loads(contents(f"{folder}/TRACE"))
+            packages = [line.split(" ")[1] for line in stored[0].decode().split("\n") if line.startswith("package ")]
+            lines = event_lines.read(got[0].decode())
+            wrong = problem(trace["events"], trace["members"], packages, lines)
+            if not wrong and b"".join(got[0].splitlines(True)[len(lines):]) != stored[0]:
+                wrong = "the text after the lines isn't what is printed without them"
+            tally.add(f"{kind}/{name}, --events", wrong or difference((b"", *got[1:]), (b"", *stored[1:])))
+
+
 def run(tally):
     stored_cases(tally, STORED)
+    events(tally)
     with tempfile.TemporaryDirectory() as folder:
         if is_built(tally, "traces, lack of memory") and built_shim(tally, folder, "refuse"):
             for name, row in ROWS.items():

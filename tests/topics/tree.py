@@ -99,7 +99,7 @@ GOOD = [
     Case("no flavor, as by default", B + port("c/c", "c-1", LIB_DEPENDS="a/b,"), B_LISTED + "c/c.FULLPKGNAME=c-1\nc/c.LIB_DEPENDS=a/b\n"),
     Case("a pseudo-flavor", B + MULTI + port("c/c", "c-1", LIB_DEPENDS="m/m,no_docs"), B_LISTED + MULTI_LISTED +
          "c/c.FULLPKGNAME=c-1\nc/c.LIB_DEPENDS=m/m,-main\n", {"m/m,no_docs": port("m/m,-main", "m-1", "m/m,no_docs")}, ("m/m,no_docs",)),
-    Case("a pseudo-flavor beside a flavor", B + port("c/c", "c-1", LIB_DEPENDS="a/b,no_z,x"), B_LISTED +
+    Case("a pseudo-flavor next to a flavor", B + port("c/c", "c-1", LIB_DEPENDS="a/b,no_z,x"), B_LISTED +
          "c/c.FULLPKGNAME=c-1\nc/c.LIB_DEPENDS=a/b,x\na/b,x.FULLPKGNAME=b-1-x\n",
          {"a/b,no_z,x": port("a/b,x", "b-1-x", "a/b,no_z,x"), "a/b,x": port("a/b,x", "b-1-x")}, ("a/b,no_z,x", "a/b,x")),
     Case("a pseudo-flavor in place of the default flavor", PY + port("c/c", "c-1", LIB_DEPENDS="d/py,no_z"), PY_LISTED +
@@ -121,11 +121,11 @@ BAD = [
     Case("a dependency of another form", B + port("c/c", "c-1", BUILD_DEPENDS="x:a/b:y:z"), B_LISTED +
          "c/c.FULLPKGNAME=c-1\nc/c.IGNORE=BUILD_DEPENDS: x:a/b:y:z has another form than [pkgspec:]pkgpath[bounds][:target]\n",
          says="1 for a dependency of another form"),
-    Case("a version that is none", B + port("c/c", "c-1", BUILD_DEPENDS="b->=x:a/b"), B_LISTED +
+    Case("a malformed version", B + port("c/c", "c-1", BUILD_DEPENDS="b->=x:a/b"), B_LISTED +
          "c/c.FULLPKGNAME=c-1\nc/c.IGNORE=BUILD_DEPENDS: b->=x:a/b asks for a version that is none\n"),
     Case("513 dependencies", B + port("c/c", "c-1", BUILD_DEPENDS="a/b " * 513), B_LISTED +
          "c/c.FULLPKGNAME=c-1\nc/c.IGNORE=BUILD_DEPENDS has 513 dependencies, and 512 are the most\n"),
-    Case("a name that is none", port("c/c|c", "no version") + B, "c/c|c.FULLPKGNAME=c_c-0\nc/c|c.IGNORE=its FULLPKGNAME, no version, is no package name\n" + B_LISTED,
+    Case("a malformed name", port("c/c|c", "no version") + B, "c/c|c.FULLPKGNAME=c_c-0\nc/c|c.IGNORE=its FULLPKGNAME, no version, is no package name\n" + B_LISTED,
          says="1 for no package name"),
     Case("no name", "===> c/c\nc/c.RUN_DEPENDS=a/b\n" + B, B_LISTED + "c/c.FULLPKGNAME=c-0\nc/c.IGNORE=it has no FULLPKGNAME\n"),
     Case("two values of one variable", port("c/c", "c-1", RUN_DEPENDS="a/b\nc/c.RUN_DEPENDS=x/y") + B,
@@ -230,19 +230,19 @@ def ended(tally) -> None:
     for number in (signal.SIGTERM, signal.SIGINT, signal.SIGHUP):
         with tempfile.TemporaryDirectory() as folder:
             with open(f"{folder}/make", "w", encoding="utf-8") as file:
-                file.write(f"#!/bin/sh\necho $$ > {folder}/pid\nexec sleep 60\n")
+                file.write(f"#!/bin/sh\necho $$ > {folder}/pid\nexec sleep 1000\n")
             os.chmod(f"{folder}/make", 0o755)
             os.mkdir(f"{folder}/tmp")
             tool = subprocess.Popen([f"{TOP}/tools/make-listing", "--dump", "dump", "."], cwd=folder, env={**os.environ, "MAKE": f"{folder}/make", "TMPDIR": f"{folder}/tmp"},
                                     stdout=subprocess.PIPE, stderr=subprocess.PIPE, preexec_fn=lambda: [signal.signal(it, signal.SIG_DFL) for it in (1, 2, 15)])
-            end = time.monotonic() + 30
+            end = time.monotonic() + LIMIT
             while not (os.path.exists(f"{folder}/pid") and os.path.getsize(f"{folder}/pid")) and time.monotonic() < end:
                 time.sleep(.02)
             tool.send_signal(number)
-            said = tool.communicate(timeout=60)
+            said = tool.communicate(timeout=LIMIT)
             with open(f"{folder}/pid", encoding="utf-8") as file:
                 process = int(file.read())
-            runs, end = True, time.monotonic() + 10
+            runs, end = True, time.monotonic() + LIMIT
             while runs and time.monotonic() < end:
                 try:
                     os.kill(process, 0)
@@ -332,7 +332,7 @@ def whole_tree(tally, scale: float = SCALE, most_seconds: float = LIMIT) -> None
         name = f"make-listing of a made tree of {len(tree.ports)} ports"
         tally.add(name, f"status {status}, {said!r:.300}" if status else same_needs(needs_of(out), tree))
         tally.add(f"{name}, its rounds", "" if "round 4: make is asked for 1 more" in said else f"{said!r:.300}")
-        tally.add(f"{name}, how long it takes", "" if took < most_seconds else f"{took:.0f} s")
+        tally.add(f"{name}, how long it takes", "" if took < most_seconds else f"{took:.0f} s", timed=True)
         with open(f"{folder}/listing", "w", encoding="latin-1") as file:
             file.write(out)
         with_letters(tally, name, folder, out)
@@ -350,11 +350,14 @@ def with_letters(tally, name: str, folder: str, listing: str) -> None:
     tally.add(f"{name}, its letters", problem or ("" if got[0] == wanted.encode() else text_difference(got[0], wanted.encode())))
 
 
-def run(tally) -> None:
+def run_without_programs(tally) -> None:
     cases(tally)
     dumps(tally)
     refused(tally)
     ended(tally)
     too_large(tally)
     real_make(tally)
-    tally.run("a made tree", whole_tree)
+
+
+def run(tally) -> None:
+    tally.case(whole_tree)

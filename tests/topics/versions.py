@@ -33,7 +33,7 @@ def tools(tally):
     """Each tool prints its line, and ends with status 0."""
     from dpbn_tools import version
     for tool in TOOLS:
-        done = subprocess.run([f"{TOP}/tools/{tool}", "--version"], stdin=subprocess.DEVNULL, capture_output=True, timeout=60)
+        done = subprocess.run([f"{TOP}/tools/{tool}", "--version"], stdin=subprocess.DEVNULL, capture_output=True, timeout=600)
         got = done.stdout.decode(), done.stderr.decode(), done.returncode
         tally.add(f"tools/{tool} --version", "" if got == (f"{version.line(tool)}\n", "", 0) else f"{got}")
 

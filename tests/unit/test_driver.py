@@ -1,8 +1,10 @@
 """The driver's parts, one by one, with what the system may refuse."""
+import fcntl
 import hashlib
 import os
 import stat
 import subprocess
+import threading
 import time
 
 import pytest
@@ -18,6 +20,8 @@ from dpbn_tools.driver.held import Held
 from dpbn_tools.driver.job import Job, NoJob
 from dpbn_tools.driver.limits import BadLimits, read_limits
 from dpbn_tools.driver.lines import Lines
+from dpbn_tools.driver.posted import Posted
+from dpbn_tools.driver.tasks import Tasks
 from dpbn_tools.driver.times import Times
 from dpbn_tools.driver.transfers import Hosts
 from dpbn_tools.driver.workfolder import Replaced, WorkFolder, put
@@ -123,6 +127,102 @@ def test_no_error_of_a_step_ends_the_loop(tmp_path, error):
     own.guarded("step", lambda: (_ for _ in ()).throw(error))
     assert any("it goes on in a while" in line for line in own.lines.last)
     own.guarded("step", lambda: pytest.fail("it is tried again at once"))
+
+
+def threads_lacking(monkeypatch, count):
+    """The system has no thread for the next ones, this many."""
+    start, left = threading.Thread.start, [count]
+
+    def starts(thread):
+        left[0] -= 1
+        if left[0] >= 0:
+            raise RuntimeError("can't start new thread")
+        start(thread)
+
+    monkeypatch.setattr(threading.Thread, "start", starts)
+
+
+def test_work_waits_for_a_thread(monkeypatch):
+    tasks, results = Tasks(), []
+    threads_lacking(monkeypatch, 3)
+    for number in range(2):
+        tasks.start(lambda it=number: it, lambda result, error: results.append((result, error)))
+    assert (tasks.running, results) == (2, [])
+    end = time.monotonic() + 60
+    while tasks.running and time.monotonic() < end:
+        tasks.look()
+        time.sleep(0.01)
+    assert (tasks.running, sorted(results)) == (0, [(0, None), (1, None)])
+
+
+def test_what_was_built_is_handed_in_once_there_is_a_thread(tmp_path, monkeypatch):
+    """A build for whose steps there is no thread for a while is handed in all the same."""
+    own = driver(tmp_path)
+    it = job()
+    os.makedirs(f"{tmp_path}/work/jobs", exist_ok=True)
+    with open(f"{tmp_path}/work/jobs/{it.name}", "wb") as file:
+        file.write(it.text)
+    build = Build(it, 0)
+    build.make(f"{tmp_path}/work/build")
+    os.mkdir(f"{build.folder}/out/a:b")
+    build.state, build.needed, build.is_reused = builds.State.OVER, [], True
+    own.builds.append(build)
+    threads_lacking(monkeypatch, 3)
+    end = time.monotonic() + 60
+    while not os.path.exists(f"{tmp_path}/work/done/{it.name}") and time.monotonic() < end:
+        own.look()
+        own.wait()
+    assert os.listdir(f"{tmp_path}/work/done") == [it.name]
+
+
+def test_a_driver_that_ends_waits_for_no_job(tmp_path):
+    """A build of an earlier run that is over, and for which no job is posted, stays for the next run, and keeps the driver from nothing."""
+    own = driver(tmp_path, "--grace", "60")
+    build = Build(job(), 0)
+    build.make(f"{tmp_path}/work/build")
+    os.mkdir(f"{build.folder}/out/a:b")
+    with open(build.file("status"), "r+b") as file:
+        file.write(b"exit 0 1.0 synced\n")
+    assert own.work.lock() == ""
+    own.clear()
+    own.look()
+    began = time.monotonic()
+    own.finish(True)
+    assert time.monotonic() - began < 30 and os.listdir(f"{tmp_path}/work/build") == [os.path.basename(build.folder)]
+
+
+def test_what_is_refused_to_a_build_keeps_no_other_back(tmp_path, monkeypatch):
+    own, gone_on = driver(tmp_path), []
+    for unit in ("a/b", "c/d"):
+        build = Build(job(unit), 0)
+        build.state, build.is_reused = builds.State.OVER, True
+        own.builds.append(build)
+
+    def go_on(build):
+        if str(build.job) == "a/b":
+            raise OSError(24, "Too many open files")
+        gone_on.append(str(build.job))
+
+    monkeypatch.setattr(own.endings, "go_on", go_on)
+    for _ in range(3):
+        own.guarded("builds", own.look_at_builds)
+    assert gone_on == ["c/d"] * 3 and sum("? a/b waits: " in line for line in own.lines.last) == 1
+
+
+def test_what_is_refused_to_a_job_keeps_no_other_back(tmp_path, monkeypatch):
+    own, begun = driver(tmp_path), []
+    for unit in ("a/b", "c/d"):
+        own.jobs[job(unit).name] = Posted(job(unit))
+
+    def is_ready(posted, _):
+        if str(posted.job) == "a/b":
+            raise OSError(5, "Input/output error")
+        return True
+
+    monkeypatch.setattr(own, "is_ready", is_ready)
+    monkeypatch.setattr(own, "begin", lambda posted: begun.append(str(posted.job)))
+    own.guarded("begin", own.begin_some)
+    assert begun == ["c/d"] and sum("? a/b waits: " in line for line in own.lines.last) == 1
 
 
 def test_a_folder_that_cannot_be_laid_out_leaves_nothing(tmp_path, monkeypatch):
@@ -315,6 +415,38 @@ def test_a_disk_that_stays_full_is_away(health):
     assert not os.path.exists(f"{health.work.path}/away")
 
 
+# ---- locks
+
+@pytest.mark.parametrize("held, is_free", [(0, True), (20, True), (1000, False)])
+def test_a_lock_that_is_held_for_a_moment_is_tried_again(monkeypatch, held, is_free):
+    clock, tries = [0.0], []
+
+    def flock(*_):
+        tries.append(1)
+        if len(tries) <= held:
+            raise BlockingIOError
+
+    monkeypatch.setattr(workfolder.fcntl, "flock", flock)
+    monkeypatch.setattr(workfolder.time, "monotonic", lambda: clock[0])
+    monkeypatch.setattr(workfolder.time, "sleep", lambda seconds: clock.append(clock.pop() + seconds))
+    if is_free:
+        workfolder.lock(0)
+        assert len(tries) == held + 1
+    else:
+        with pytest.raises(BlockingIOError):
+            workfolder.lock(0)
+        assert 2 <= clock[0] < 3
+
+
+def test_a_look_at_the_lock_that_takes_long_does_not_end_a_driver(tmp_path):
+    """A node that gets no processor while it looks whether anybody holds the lock has it for longer."""
+    work = WorkFolder(f"{tmp_path}/work")
+    with open(f"{tmp_path}/work/lock", "wb") as look:
+        fcntl.flock(look, fcntl.LOCK_SH)
+        threading.Timer(0.5, lambda: fcntl.flock(look, fcntl.LOCK_UN)).start()
+        assert work.lock() == ""
+
+
 # ---- the supervisor
 
 SUPERVISOR = os.path.join(os.path.dirname(builds.__file__), "supervisor.py")
@@ -336,7 +468,7 @@ def test_what_a_command_leaves_is_killed(tmp_path, without):
         text += part
     process.wait()
     with pytest.raises(ProcessLookupError):
-        for _ in range(100):
+        for _ in range(2400):
             os.kill(int((tmp_path / "left").read_text()), 0)
             time.sleep(0.05)
     for number in (life, held, reads):
@@ -356,7 +488,7 @@ def test_a_helper_ends_with_its_driver(tmp_path):
     while not (tmp_path / "pid").exists() or not (tmp_path / "pid").read_text():
         time.sleep(0.01)
     command.end()
-    end = time.monotonic() + 20
+    end = time.monotonic() + 240
     while not command.poll() and time.monotonic() < end:
         time.sleep(0.02)
     assert command.poll() and not command.has_succeeded()

@@ -12,14 +12,14 @@ from dpbn_tools.log import Large
 
 
 def test_another_host_is_asked_while_one_does_not_answer(tmp_path, monkeypatch):
-    monkeypatch.setattr(module, "LONG", 0.3)
+    monkeypatch.setattr(module, "LONG", 3)
     monkeypatch.setattr(module, "EACH", 0.05)
     large, told = Large(b"big", hashlib.sha256(b"large").hexdigest(), 5), []
     store = Store(f"{tmp_path}/store", "0" * 16, Tasks(), told.append)
     command = f"echo $HOST >> {tmp_path}/asked; case $HOST in 0) echo $$ > {tmp_path}/pid; sleep 1000;; esac; printf large > \"$TARGET\""
     fetches = Fetches(store, command, lambda: f"{tmp_path}/log", store.tasks, told.append)
     fetches.want(large, [0, 1])
-    end = time.monotonic() + 30
+    end = time.monotonic() + 240
     while not store.has(large) and time.monotonic() < end:
         fetches.look()
         store.tasks.look()

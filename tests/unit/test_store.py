@@ -24,7 +24,7 @@ def store(tmp_path):
 
 def settled(store, it):
     """What is known of a file once it was hashed."""
-    end = time.monotonic() + 10
+    end = time.monotonic() + 240
     while store.state(it) is State.CHECKING and time.monotonic() < end:
         store.look()
         store.tasks.look()

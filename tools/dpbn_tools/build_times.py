@@ -15,7 +15,7 @@ class Bad(Exception):
     """A line of another form."""
 
     def __init__(self, line: int) -> None:
-        super().__init__(f"line {line} is no 'UNIT SECONDS BYTES HOST'")
+        super().__init__(f"line {line} isn't 'UNIT SECONDS BYTES HOST'")
 
 
 class Took(NamedTuple):

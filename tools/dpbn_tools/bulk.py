@@ -26,7 +26,7 @@ class Claim(NamedTuple):
 
 
 class Builder(NamedTuple):
-    """Who builds a unit, or is about to, and since when."""
+    """The host that builds a unit, or is about to, and since when."""
 
     host: int
     state: str
@@ -53,10 +53,11 @@ class Host:
         self.seen: Optional[float] = None
 
     def look(self, now: float) -> None:
-        """When it was last seen to do something: its log, or what changes with each job and build."""
+        """When it was last seen to do something: its log, or what changes with each job and build. A driver touches the lock every ten
+        seconds, so that says only that it runs."""
         times = [self.log.touched] if self.log else []
         if self.work:
-            times += [touched(f"{self.work.path}/{name}") for name in ("jobs", "done", "failed", "build", "times", "lock")]
+            times += [touched(f"{self.work.path}/{name}") for name in ("jobs", "done", "failed", "build", "times")]
             times += [touched(self.work.log_of(unit) or "") for unit in self.work.running]
         known = [it for it in times if it is not None]
         self.seen = min(now, max(known)) if known else None
@@ -144,8 +145,8 @@ class Bulk:
         except OSError as error:
             self.problem(f"{work.path}: {error.strerror}")
         if work.times.bad:
-            lines = "a line is" if work.times.bad == 1 else f"{work.times.bad} lines are"
-            self.problems.append(f"{work.path}/times: {lines} no 'UNIT SECONDS BYTES HOST'")
+            lines = "a line isn't" if work.times.bad == 1 else f"{work.times.bad} lines aren't"
+            self.problems.append(f"{work.path}/times: {lines} 'UNIT SECONDS BYTES HOST'")
 
     def problem(self, text: str) -> None:
         if not self.has_looked:
@@ -159,7 +160,7 @@ class Bulk:
             host = host or self.host_of(place, log)
             number = self.division.number.get(note.unit)
             if number is None:
-                raise Refused(f"a note is on {note.unit}, which is no unit of the listing")
+                raise Refused(f"a note is on {note.unit}, which isn't a unit of the listing")
             self.take(host, number, note, now)
         if log.header and not host:
             self.host_of(place, log)

@@ -1,5 +1,5 @@
-"""The longest chain of build times that begins at each unit of a listing: how long the bulk still takes at least, once the unit is
-begun, if each unit is built as soon as all that it needs is there.
+"""The longest chain of build times that begins at each unit of a listing. That is how long the bulk still takes at least once the
+unit is begun, if each unit is built as soon as all that it needs is there.
 
 What waits for what is a graph of units and paths. A unit is followed by its paths; a path, once it can be installed, by the units that
 need it to be built, and by the paths that need it to run."""

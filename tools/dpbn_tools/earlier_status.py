@@ -9,12 +9,12 @@ from dpbn_tools.letters import LETTERS
 from dpbn_tools.progress import History, Sample, seconds_of
 from dpbn_tools.status import Reporter
 
-# a file that is larger is no status
+# a file that is larger isn't a status
 MOST = 1 << 28
 
 
 def read(path: str) -> Optional[Dict[str, Any]]:
-    """The earlier status, or None if there is none that can be read."""
+    """The earlier status, or None if no such file can be read."""
     try:
         with open(path, "rb") as file:
             found = json.loads(file.read(MOST))
@@ -59,7 +59,7 @@ def sample(one: Dict[str, Any]) -> Sample:
 def take_unit(reporter: Reporter, name: str, one: Dict[str, Any], now: float) -> None:
     bulk, unit = reporter.bulk, reporter.division.number[name]
     if bulk.letters.is_held(unit):
-        # what was not held then came to be held between the two reports
+        # what was not held then became held between the two reports
         bulk.held_since[unit] = seconds_of(one.get("since")) if one["letter"] in ("I", "B") else now
     for failed in one.get("failed", []):
         when = seconds_of(failed["time"])

@@ -21,7 +21,7 @@ def opened(path: str) -> BinaryIO:
     number = os.open(path, os.O_RDONLY | os.O_NONBLOCK | os.O_CLOEXEC)
     if not stat.S_ISREG(os.fstat(number).st_mode):
         os.close(number)
-        raise Refused(f"{ascii(path)}: it is no file")
+        raise Refused(f"{ascii(path)}: it isn't a file")
     return os.fdopen(number, "rb", buffering=0)
 
 
@@ -106,7 +106,7 @@ def files_below(folder: str) -> Iterator[Tuple[str, int]]:
                     raise Refused(f"{shortened(entry.path)}: no record takes a file of this name")
                 below.append((name + "/", entry.path))
             elif not entry.is_file():
-                raise Refused(f"{ascii(entry.path)}: it is no file")
+                raise Refused(f"{ascii(entry.path)}: it isn't a file")
             elif not FILE_NAME.fullmatch(os.fsencode(name)) or name.startswith("@"):
                 raise Refused(f"{shortened(entry.path)}: no record takes a file of this name")
             else:
@@ -120,13 +120,13 @@ def shortened(path: str) -> str:
 
 
 def packages_in(folder: str) -> Packages:
-    """The files of each package in the folder, by its path. Entries that are no folders are left out."""
+    """The files of each package in the folder, by its path. Entries that aren't folders are left out."""
     packages = {}
     for entry in entries(folder):
         if entry.is_dir():
             path = entry.name.replace(":", "/")
             if not is_path(os.fsencode(path)):
-                raise Refused(f"{ascii(entry.path)}: its name is no package path, with : for each /, flavors in order")
+                raise Refused(f"{ascii(entry.path)}: its name isn't a package path, with : for each /, flavors in order")
             packages[path] = sorted((File(entry.path, name, size) for name, size in files_below(entry.path)), key=lambda file: file.name)
     return packages
 

@@ -39,7 +39,7 @@ def options(given: Optional[Sequence[str]] = None) -> argparse.Namespace:
     words.add_argument("folder", metavar="DIR", help="the folder of the run on this host")
     words.add_argument("what", metavar="WHAT", nargs="?", help="a SHA-256 for give and keep, a number for name")
     words.add_argument("--new", action="store_true", help="this host never ran in this run")
-    words.add_argument("--only", metavar="PART", choices=(NODE, DRIVER), help="of node and driver run this one alone")
+    words.add_argument("--only", metavar="PART", choices=(NODE, DRIVER), help="run only this one of node and driver")
     asked = words.parse_args(given)
     if (asked.what is not None) != (asked.command in ("give", "keep", "name")):
         words.error(f"{asked.command} takes {'no WHAT' if asked.what is not None else 'a WHAT'}")

@@ -14,7 +14,7 @@ MAY_PASS = (b"2", b"1204")
 
 
 class End(NamedTuple):
-    """What becomes of the part, and why. `holds_all` is of a node that came to rest."""
+    """What is done with the part, and why. `holds_all` is of a node that came to rest."""
 
     what: str
     why: str

@@ -84,7 +84,7 @@ def add(tar: tarfile.TarFile, name: str, data: Any, size: int, touched: int) -> 
 # ---- what a report needs of the work folder
 
 def small_files(work: str) -> Iterator[Tuple[str, str, int]]:
-    """Files by their names in the work folder: where each is, and how many of its last bytes go."""
+    """Files by their names in the work folder: the path of each, and how many of its last bytes go."""
     for part in ("jobs", "failed"):
         for name in names_in(f"{work}/{part}"):
             yield f"{part}/{name}", f"{work}/{part}/{name}", MAX_JOB

@@ -73,7 +73,7 @@ class Folder:
         return bool(self.logs() or glob.glob(f"{glob.escape(self.path)}/node-[0-8].run"))
 
     def run_file(self) -> Optional[Dict[str, str]]:
-        """The lines of a run file by their first words; None if there is none."""
+        """The lines of a run file by their first words; None if no run file exists."""
         for path in sorted(glob.glob(f"{glob.escape(self.path)}/node-[0-8].run")):
             lines = [line.partition(" ") for line in (text_of(path) or "").splitlines()]
             return {word: rest for word, _, rest in lines}
@@ -91,7 +91,7 @@ class Folder:
     # ---- what runs
 
     def holder(self, part: str) -> Optional[int]:
-        """The process that holds a part's lock; 0 if it can't be named, None if there is none."""
+        """The process that holds a part's lock; 0 if it can't be named, None if nobody holds it."""
         return lock_holder(self.at(f"{part}.lock"))
 
     def since(self, part: str) -> Optional[float]:

@@ -212,7 +212,7 @@ def keep(folder: Folder, only: Optional[str], is_new: bool) -> int:
 
 
 def has_locked(lock: BinaryIO) -> bool:
-    """Locks it. Those who look whether it is locked hold it for a moment, too."""
+    """Locks it. Those who check the lock hold it for a moment, too."""
     end = time.monotonic() + FIRST_WAIT
     while True:
         try:

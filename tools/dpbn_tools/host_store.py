@@ -32,7 +32,7 @@ def sizes(store: str) -> Dict[str, int]:
 
 def checked(digest: str) -> str:
     if not DIGEST.fullmatch(digest):
-        raise BadFolder(f"{digest!a} is no SHA-256")
+        raise BadFolder(f"{digest!a} isn't a SHA-256")
     return digest
 
 
@@ -66,7 +66,7 @@ def copy_whole(source: BinaryIO, target: BinaryIO, digest: str) -> None:
         target.write(part)
     target.flush()
     if reckoned.hexdigest() != digest:
-        raise BadFolder(f"what came hasn't the SHA-256 {digest}")
+        raise BadFolder(f"the file that came doesn't have the SHA-256 {digest}")
 
 
 def other(file: HostsFile, number: str) -> Host:

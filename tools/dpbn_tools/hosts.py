@@ -71,7 +71,7 @@ def parsed(words: argparse.ArgumentParser, given: List[str]) -> argparse.Namespa
 
 
 def add_into(command: argparse.ArgumentParser) -> None:
-    command.add_argument("--into", metavar="DIR", help="where they are put; FILE.d")
+    command.add_argument("--into", metavar="DIR", help="the folder that they are put into; FILE.d")
 
 
 def chosen(asked: argparse.Namespace, file: HostsFile) -> List[Host]:

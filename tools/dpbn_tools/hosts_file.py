@@ -97,7 +97,7 @@ class Draft:
         elif word in ("listing", "key", "dir", "work", "store", "bin", "jobs", "build", "ssh"):
             self.read_once(word, values)
         else:
-            raise self.refuse(f"{word!a} is no word of this file")
+            raise self.refuse(f"{word!a} isn't a word of this file")
 
     def read_once(self, word: str, values: List[str]) -> None:
         if word in self.once:
@@ -129,7 +129,7 @@ class Draft:
             raise self.refuse("a host needs a name and an address, as in `host oak 192.0.2.10:7000`")
         name, address, *settings = values
         if not HOST_NAME.fullmatch(name):
-            raise self.refuse(f"{name!a} is no name of a host")
+            raise self.refuse(f"{name!a} isn't a name of a host")
         self.check_address(name, address)
         if len(self.hosts) == MAX_HOSTS:
             raise self.refuse(f"there are more than {MAX_HOSTS} hosts")
@@ -145,14 +145,14 @@ class Draft:
         numbers = [int(number) for number in found.groups()] if found else []
         is_plain = found and ".".join(map(str, numbers[:4])) + f":{numbers[4]}" == address
         if not is_plain or max(numbers[:4]) > 255 or not any(numbers[:4]) or not 0 < numbers[4] < 65_536:
-            raise self.refuse(f"host {name}: {address!a} is no IPv4 address with a port, as in 192.0.2.10:7000")
+            raise self.refuse(f"host {name}: {address!a} isn't an IPv4 address with a port, as in 192.0.2.10:7000")
 
     def settings(self, name: str, words: List[str]) -> Dict[str, str]:
         found: Dict[str, str] = {}
         for word in words:
             setting, equal, value = word.partition("=")
             if not equal or setting not in SETTINGS:
-                raise self.refuse(f"host {name}: {word!a} is no setting of a host: {', '.join(f'{it}=' for it in SETTINGS)}")
+                raise self.refuse(f"host {name}: {word!a} isn't a setting of a host: {', '.join(f'{it}=' for it in SETTINGS)}")
             if setting in found:
                 raise self.refuse(f"host {name}: {setting}= is there a second time")
             if not value:
@@ -205,7 +205,7 @@ def parsed(path: str, text: bytes) -> HostsFile:
         try:
             line = raw.decode()
         except UnicodeDecodeError:
-            raise draft.refuse("it has bytes that are no UTF-8") from None
+            raise draft.refuse("it has bytes that aren't UTF-8") from None
         if "\0" in line or "\r" in line:
             raise draft.refuse("it has a control character")
         if line.strip() and not line.lstrip().startswith("#"):

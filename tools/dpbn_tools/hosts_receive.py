@@ -46,7 +46,7 @@ def receive(file: HostsFile, host: Host, asked: Dict[str, Any], take: Take) -> N
     if status > 0:
         raise NoAnswer(why_not(status, b"".join(errors)))
     if broken:
-        raise NoAnswer(f"what came broke off: {broken}")
+        raise NoAnswer(f"the answer broke off: {broken}")
 
 
 def give(stream: IO[bytes], data: bytes) -> None:

@@ -27,7 +27,7 @@ class Answered(NamedTuple):
 
 
 def on_all(hosts: List[Host], call: Callable[[Host], Result]) -> List[Result]:
-    """Calls it for all hosts at a time. Returns what came of it in their order."""
+    """Calls it for all hosts at a time. Returns the results in their order."""
     with ThreadPoolExecutor(max(1, len(hosts))) as pool:
         return list(pool.map(call, hosts))
 

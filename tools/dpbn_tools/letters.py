@@ -1,4 +1,4 @@
-"""The letters of paths, as `dpbr status` prints them, kept up to date while more and more of the paths come to be held."""
+"""The letters of paths, as `dpbr status` prints them, kept up to date while more and more of the paths become held."""
 from __future__ import annotations
 
 from typing import Dict, List

@@ -61,7 +61,7 @@ class Listing:
         left, equals, value = line.partition(b"=")
         text, dot, variable = left.rpartition(b".")
         if not equals or not dot:
-            raise BadLine(f"line {number} is no PATH.VARIABLE=value")
+            raise BadLine(f"line {number} isn't PATH.VARIABLE=value")
         path = canonical(text)
         if variable not in VARIABLES:
             if path in self.paths:

@@ -34,7 +34,7 @@ class Dependency(NamedTuple):
 
 
 def canonical(text: str) -> Optional[str]:
-    """The one spelling of a package path, or None if the text is no path."""
+    """The one spelling of a package path, or None if the text isn't a path."""
     directory, *parts = text.split(",")
     words = directory.split("/")
     if len(text) > LONGEST_PATH or len(words) < 2 or any(word in ("", ".", "..") for word in words):

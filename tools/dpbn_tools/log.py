@@ -40,7 +40,7 @@ class Reader:
 
     @property
     def place(self) -> int:
-        """Where the next field is in the file."""
+        """The position of the next field in the file."""
         return self.base + self.at
 
     @property
@@ -304,7 +304,7 @@ class LogFile:
         return data
 
     def has_header(self) -> bool:
-        """Whether the header is there. A log that a node has just begun has none yet; what is no log raises BadLog."""
+        """Whether the header is there. A log that a node has begun a moment ago may lack it; a file that isn't a log raises BadLog."""
         if not self.header:
             head = self.read(0, 64)
             if head[:1] != b"\1":

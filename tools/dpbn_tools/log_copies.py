@@ -15,7 +15,7 @@ CHUNK = 1 << 20
 
 
 def first_closed_gate(file: BinaryIO) -> int:
-    """Where the first closed gate is. A log without a header has it at 0."""
+    """The position of the first closed gate. A log without a header has it at 0."""
     number = file.fileno()
     head = os.pread(number, 64, 0)
     if head[:1] != b"\1":

@@ -45,9 +45,9 @@ class Needs:
                 self.part_of[node] = number
         self.needed = [sorted({self.part_of[it] for node in members for it in edges[node]} - {number})
                        for number, members in enumerate(self.parts)]
-        # the unit of each part that is one unit alone, and else -1
+        # the unit of each part that is one unit only, and else -1
         self.unit_of = [members[0] if len(members) == 1 and members[0] < self.count else -1 for members in self.parts]
-        # units that can never be built, since each needs itself; paths that need each other to run are no such circle
+        # units that can never be built, since each needs itself; paths that need each other to run don't make such a circle
         several = [[node for node in members if node < self.count] for members in self.parts if len(members) > 1]
         self.circles = [sorted(units) for units in several if units]
         # what each unit was said to wait for
@@ -67,7 +67,7 @@ class Needs:
         return {unit for unit in range(self.count) if found[self.part_of[unit]]}
 
     def masks(self, letters: Letters, units: Sequence[int]) -> List[int]:
-        """For each part which of these units it needs, as bits, where what is held needs nothing."""
+        """For each part which of these units it needs, as bits. What is held needs nothing."""
         own: Dict[int, int] = {}
         for bit, unit in enumerate(units):
             own[self.part_of[unit]] = own.get(self.part_of[unit], 0) | 1 << bit

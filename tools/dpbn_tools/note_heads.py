@@ -1,5 +1,5 @@
 """The notes of a log that grows, without the files in them: of each note its unit, its claim, and who built what is held. A look reads
-what came since the last one."""
+the notes that were added since the last one."""
 from __future__ import annotations
 
 import os
@@ -92,7 +92,7 @@ class Log:
         self.path = path
         self.header: Optional[Header] = None
         self.file: Optional[int] = None
-        # where the next note's gate is, what was read last, and where that begins
+        # the position of the next note's gate, what was read last, and its position
         self.at, self.window, self.start = 0, b"", 0
         # the bytes before `at`, by which a copy of the log is known
         self.before = b""

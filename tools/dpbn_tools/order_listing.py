@@ -48,7 +48,7 @@ class Times:
         self.seconds: Dict[bytes, float] = {}
 
     def read(self, name: str) -> None:
-        """Reads a file of times. The last line of a unit counts. A line that is none is reported, and left out."""
+        """Reads a file of times. The last line of a unit counts. A malformed line is reported, and left out."""
         bad: List[int] = []
         for number, line in enumerate(read(name).split(b"\n"), 1):
             found = TIME.fullmatch(line)

@@ -30,7 +30,7 @@ def is_path(text: bytes) -> bool:
 
 
 def canonical(text: bytes) -> bytes:
-    """The canonical form of a path in any spelling. What is no path stays none: check it with is_path."""
+    """The canonical form of a path in any spelling. The result for any other text isn't a path either: check it with is_path."""
     directory, *parts = text.split(b",")
     subpackages = [part for part in parts if part.startswith(b"-")]
     flavors = sorted({part for part in parts if not part.startswith(b"-")})

@@ -43,7 +43,7 @@ Spec = List[Alternative]
 
 
 def number(digits: Optional[str]) -> int:
-    """The number that digits write: 0 if there are none, and -1 if the text itself is absent."""
+    """The number that digits write: 0 if there are no digits, and -1 if the text itself is absent."""
     if digits is None:
         return -1
     return int(digits or "0")
@@ -64,7 +64,7 @@ def version(text: str) -> Version:
 
 
 def name(text: str) -> Optional[Name]:
-    """The parts of a package name, or None if the text is no package name."""
+    """The parts of a package name, or None if the text isn't a package name."""
     found = VERSION_BEGINS.search(text)
     if not found or len(text) > LONGEST_NAME or not NAME_BYTES.fullmatch(text):
         return None
@@ -73,7 +73,7 @@ def name(text: str) -> Optional[Name]:
 
 
 def bound(text: str) -> Optional[Tuple[str, Version]]:
-    """An operator and its version, or None if the text is no bound."""
+    """An operator and its version, or None if the text isn't a bound."""
     operator = next((it for it in OPERATORS if text.startswith(it)), "")
     rest = text[len(operator):]
     return (operator or "=", version(rest)) if VERSION_BYTES.fullmatch(rest) else None

@@ -7,7 +7,7 @@ from typing import Dict, Iterable, List, NamedTuple, Optional, Tuple
 
 # how many samples are kept at most, and over how many seconds the rate is measured
 MOST_SAMPLES, RATE_SECONDS = 480, 3600
-# a rate is known once this many units came to be held while somebody looked, in this many seconds
+# a rate is known once this many units became held while somebody looked, in this many seconds
 LEAST_UNITS, LEAST_SECONDS = 3, 10
 FORM = "%Y-%m-%dT%H:%M:%SZ"
 HOUR = 3600
@@ -72,7 +72,7 @@ class History:
         return found if found is not None or not self.samples else self.samples[0].time
 
     def rate(self) -> Optional[float]:
-        """How many units come to be held in a second, over the last hour; or None if too little was seen."""
+        """How many units become held in a second, over the last hour; or None if too little was seen."""
         if not self.samples:
             return None
         last = self.samples[-1]
@@ -92,7 +92,7 @@ def by_rate(units: int, rate: Optional[float]) -> Optional[Estimate]:
 
 
 def by_hour(held_since: Iterable[Optional[float]], sizes: Iterable[int]) -> List[Tuple[float, int, int]]:
-    """For each hour in which units came to be held: when it began, how many units, and of how many paths."""
+    """For each hour in which units became held: when it began, how many units, and of how many paths."""
     hours: Dict[int, List[int]] = {}
     for since, size in zip(held_since, sizes):
         if since is not None:

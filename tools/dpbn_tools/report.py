@@ -20,7 +20,7 @@ from dpbn_tools.watch import Screen
 from dpbn_tools.work_folders import Work
 
 SIGNALS = (signal.SIGHUP, signal.SIGINT, signal.SIGTERM)
-# how often it looks where nothing is said, in seconds, and for how long nothing may happen before nothing is left to be built
+# how often it looks without an option for that, in seconds, and for how long nothing may happen before nothing is left to be built
 EVERY, REST = 5, 60
 
 

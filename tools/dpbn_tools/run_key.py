@@ -12,15 +12,15 @@ LINE = re.compile(rb"[0-9a-fA-F]{64}\n?")
 
 
 class BadKey(Exception):
-    """Why the file is no key."""
+    """Why the file isn't a key."""
 
 
 def read(path: str) -> bytes:
-    """The line of a key's file, which has to be its owner's alone."""
+    """The line of a key's file, which only its owner may use."""
     with open(path, "rb", opener=lambda name, how: os.open(name, how | os.O_NONBLOCK)) as file:
         about = os.fstat(file.fileno())
         if not stat.S_ISREG(about.st_mode):
-            raise BadKey(f"{path}: it is no file")
+            raise BadKey(f"{path}: it isn't a file")
         if about.st_mode & 0o077:
             raise BadKey(f"{path}: others than its owner may use it (chmod 600)")
         text = file.read(66)

@@ -217,7 +217,7 @@ class Reporter:
         return found
 
     def held(self, view: View, number: int) -> Object:
-        """What there is to say of a unit that is held: who built it, in how many seconds, and since when it has been seen."""
+        """What there is to say of a unit that is held: its builder, in how many seconds, and since when it has been seen."""
         host, since = self.bulk.built_by[number], self.bulk.held_since[number]
         seconds = view.seconds.get(self.division.units[number].name)
         found: Object = {"host": host}

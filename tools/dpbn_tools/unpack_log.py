@@ -44,7 +44,7 @@ class Package(NamedTuple):
 
 
 class Places:
-    """Where each file of a package goes: into a folder of the package, or all into one."""
+    """The place of each file of a package: in a folder of the package, or all into one."""
 
     def __init__(self, folder: str, is_flat: bool) -> None:
         self.folder, self.is_flat = folder, is_flat
@@ -145,7 +145,7 @@ class Unpacked:
         for file in [record.whole] if record.inner else record.files:
             self.write_file(record, file)
         if record.inner:
-            self.lines.append(f"{record.path.decode()} has its record alone, as @record: what {record.inner.decode()} lies in is a file")
+            self.lines.append(f"{record.path.decode()} has only its record, as @record: the folder of {record.inner.decode()} is a file")
         for large in record.large if self.store else []:
             self.make_whole(record, large.name, large.digest)
 
@@ -232,7 +232,7 @@ def options() -> argparse.Namespace:
                                     allow_abbrev=False)
     add_version(words)
     words.add_argument("--store", metavar="STORE", help="has the files that went as name, size and SHA-256, each named by that")
-    words.add_argument("--link", action="store_true", help="such files get a second name in place of a copy, where that can be had")
+    words.add_argument("--link", action="store_true", help="such files get a second name in place of a copy, if the file system allows it")
     words.add_argument("--flat", action="store_true", help="all files are put into DIR itself, as in a folder of packages for pkg_add(1)")
     words.add_argument("log", metavar="LOG", help="the log of a node")
     words.add_argument("folder", metavar="DIR", help="what is made: a folder for each package, list and held")

@@ -5,7 +5,7 @@ import os
 # the release, which dpbr and dpbn have in crates/dpbr_cli/src/release.rt
 RELEASE = "0.9"
 
-# where `make install` and `make dist` write the commit that the tools are of: beside the folder of these modules
+# where `make install` and `make dist` write the commit that the tools are of: next to the folder of these modules
 COMMIT_FILE = f"{os.path.dirname(os.path.dirname(os.path.realpath(__file__)))}/VERSION"
 
 

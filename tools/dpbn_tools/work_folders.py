@@ -207,11 +207,11 @@ class Work:
                 yield job.unit, QUEUED, job.since
 
     def log_of(self, unit: str) -> Optional[str]:
-        """Where the log of the last build is."""
+        """The path of the log of the last build."""
         return self.first_log(f"{place_of(unit)}.log")
 
     def failed_log(self, unit: str, named: Optional[str]) -> Optional[str]:
-        """Where the log of a build that failed is: by the name that the mark has for it, or by the unit's."""
+        """The path of the log of a build that failed: by the name that the mark has for it, or by the unit's."""
         names = [name for name in (named, f"{place_of(unit)}.log") if name]
         return self.first_log(*(f"failed/{name}" for name in names), *names)
 

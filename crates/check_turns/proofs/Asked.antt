@@ -1,7 +1,8 @@
 -- How often a port was asked.
 use Rattle.std.proofs.Common.{◌∙◌, ◌≤◌, ◌+◌, ◌++◌, ℕ, Bool, true, false, List, [], Option, None, Some, Result, Ok, Err, IfErr, IfOk, ap, append-nil, append_assoc, arith, length, length-append, sym}
 use Rattle.std.specs.Prelude.{IfNone, IfSome}
-use Rattle.turn_rules.specs.Choice.{Chosen, has_job}
+use Rattle.turn_rules.specs.Choice.{Chosen}
+use Rattle.cluster_turns.specs.Choice.{has_job}
 use Rattle.turn_rules.specs.declared.fault.TurnFault.{TurnFault}
 use Rattle.turn_rules.specs.declared.fault.TurnFault.TheVariants as refused
 use Rattle.cluster_turns.specs.Choosing.{looked_for}

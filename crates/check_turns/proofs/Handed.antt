@@ -4,8 +4,8 @@ use Rattle.std.proofs.lemmas.Bool.{true≢false}
 use Rattle.std.specs.List.{range_with_len}
 use Rattle.std.specs.Prelude.{is_some, option_and_then, option_map}
 use Rattle.turn_rules.specs.Acts.{asked_by}
-use Rattle.turn_rules.specs.Answering.{answer_of, answer_to}
-use Rattle.turn_rules.specs.Choice.{Chosen, IsFirstOwn, IsGivenOr, comes_to, first_job, has_job, in_turn}
+use Rattle.turn_rules.specs.Answering.{answer_if, answer_of, answer_to}
+use Rattle.turn_rules.specs.Choice.{Chosen, IsFirstDone, IsGivenOr, all_made, comes_to, each_own, first_answer, has_answer, in_turn}
 use Rattle.turn_rules.specs.declared.act.Act.{Act}
 use Rattle.turn_rules.specs.declared.fault.TurnFault.{TurnFault}
 use Rattle.turn_rules.specs.declared.fault.TurnFault.TheVariants as refused
@@ -25,7 +25,7 @@ use Rattle.datagram_ports.specs.declared.fault.PortFault.{PortFault}
 use Rattle.protocol.specs.Given.{Given}
 use Rattle.protocol.specs.State.{State}
 use Rattle.protocol.specs.declared.input.Input.{Input}
-use Rattle.lone_node.proofs.Only.{none_among, own_answer}
+use Rattle.lone_node.proofs.Each.{none_does_so}
 use Rattle.lone_node.specs.Faults.{IsRefusedBy}
 use Rattle.lone_node.specs.Handed.{AllBuilds}
 use Rattle.lone_node.specs.State.{SoloState, me_of, member_up, only}
@@ -58,14 +58,14 @@ module _ {D : Type 0} (is_kept : D → Type 0) (history : D → History) (failur
           (t.done.taken).taken,
           (t.done.taken).takes,
           record {
-            looked = has_job (only n) count builds;
+            looked = has_answer (only n) count (all_made builds);
             came = chosen.answer;
             answers = sent.0;
             sends = sent.1;
             left = left_waiting old.port new.port
-                (received_by (has_job (only n) count builds) chosen.answer ++ sends_of sent.0)
+                (received_by (has_answer (only n) count (all_made builds)) chosen.answer ++ sends_of sent.0)
                 (WentThrough-append DoesInMemory old.port chosen.between new.port
-                (received_by (has_job (only n) count builds) chosen.answer) (sends_of sent.0)
+                (received_by (has_answer (only n) count (all_made builds)) chosen.answer) (sends_of sent.0)
                 chosen.received sent.2);
           },
         )
@@ -81,12 +81,13 @@ module _ {D : Type 0} (is_kept : D → Type 0) (history : D → History) (failur
       here : only n n.member.me ≡ Some n.member
       here = ap (λ b. if b then member_up n else None) (eq-eqb n.member.me n.member.me refl) ∙ up
 
-      no_answer : own_answer n builds ≡ None
+      no_answer : option_and_then (answer_if (Some builds)) (member_up n) ≡ None
       no_answer = ap (option_and_then (λ s. answer_of s builds)) up
           ∙ ap (option_and_then (λ o. answer_to n.member builds o o.progress)) no_claim
 
-      no_job : first_job (only n) count builds ≡ None
-      no_job = none_among n builds no_answer (range_with_len 0 count)
+      no_job : first_answer (only n) count (all_made builds) ≡ None
+      no_job =
+          none_does_so n (λ k. answer_if (Some builds)) no_answer (range_with_len 0 count)
 
       -- what the one receive returned
       gave : (answer : Result Arrived PortFault) (between : MemPortState)
@@ -97,7 +98,8 @@ module _ {D : Type 0} (is_kept : D → Type 0) (history : D → History) (failur
           absurd (true≢false (sym deaf ∙ hears))
 
       abbrev later : Chosen → Type 0
-      later c = IsFirstOwn (only n) count old.pending (in_turn old.pending.next count) c
+      later c =
+          IsFirstDone (only n) count old.pending each_own (in_turn old.pending.next count) c
 
       -- so that is chosen
       is_that : (c : Chosen) (parcels : List Parcel)

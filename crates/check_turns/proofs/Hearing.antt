@@ -5,7 +5,8 @@ use Rattle.std.proofs.lemmas.List.Quantifiers.{position-Some}
 use Rattle.std.proofs.lemmas.Option.{slice_get-get_or}
 use Rattle.std.specs.Prelude.{IfNone, IfSome, option_map, position}
 use Rattle.std.specs.Str.{bytes_eq}
-use Rattle.turn_rules.specs.Choice.{Chosen, Here, IsFirstOwn, IsGivenOr, comes_to, first_job, has_job, in_turn}
+use Rattle.turn_rules.specs.Choice.{Chosen, Here, IsGivenOr, comes_to, in_turn}
+use Rattle.cluster_turns.specs.Choice.{IsFirstOwn, first_job, has_job}
 use Rattle.turn_rules.specs.declared.fault.TurnFault.{TurnFault}
 use Rattle.turn_rules.specs.declared.fault.TurnFault.TheVariants as refused
 use Rattle.cluster_turns.specs.Choosing.{looked_for}

@@ -6,7 +6,8 @@ use Rattle.std.proofs.lemmas.List.FromFn.{get_or-range_with_len, length-range_wi
 use Rattle.std.proofs.lemmas.Option.{slice_get_within}
 use Rattle.std.specs.List.{range_with_len}
 use Rattle.std.specs.Prelude.{Contains, IfNone}
-use Rattle.turn_rules.specs.Choice.{Chosen, Here, IsDoneOr, IsFirstOwn, IsGivenOr, IsOwnIf, barred_at, comes_to, first_job, in_turn}
+use Rattle.turn_rules.specs.Choice.{Chosen, Here, IsDoneOr, IsGivenOr, barred_at, comes_to, in_turn}
+use Rattle.cluster_turns.specs.Choice.{IsFirstOwn, IsOwnIf, first_job}
 use Rattle.turn_rules.specs.Own.{Barred, IsOwnBy, renewed}
 use Rattle.turn_rules.specs.Pending.{Pending, above_at}
 use Rattle.cluster_turns.specs.Here.{member_up}

@@ -1,4 +1,3 @@
-mod Answered
 mod Asked
 mod Crashing
 mod Following

@@ -1,6 +1,6 @@
 -- Turns of a cluster over a port in memory.
 use Rattle.std.specs.Prelude.{◌≡◌, ◌++◌, ℕ, Bool, true, false, All, List, [], ◌∷◌, Option, None, Some, Result, Ok, Err, IfNone, IfOk, IfSome, OnErr, drop, flat_map, length, map}
-use Rattle.turn_rules.specs.Choice.{has_job}
+use Rattle.cluster_turns.specs.Choice.{has_job}
 use Rattle.turn_rules.specs.declared.fault.TurnFault.{TurnFault}
 use Rattle.protocol.specs.Events.{event_view, node_of}
 use Rattle.protocol.specs.declared.event.Event as declared

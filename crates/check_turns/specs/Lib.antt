@@ -3,7 +3,6 @@ pub mod Handed
 pub mod Heard
 pub mod InMemory
 pub mod Listed
-pub mod Mixed
 pub mod Reopened
 pub mod Shown
 pub mod Two

@@ -22,8 +22,8 @@ node_up None up = absurd (let bad : false ≡ true = up in cc)
 node_up (Some x) up = (x, refl, up)
 
 -- a step appends to the events taken
-pub more_taken : (r : Result (Prim.Unit {0}) WorldFault) (old new : History) (e : Event)
+pub more_taken : {T : Type 0} (r : Result T WorldFault) (old new : History) (e : Event)
     → OnOk r (taken new ≡ taken old ++ e ∷ []) → OnErr r (new ≡ old)
     → (late : List Event) × (taken new ≡ taken old ++ late)
-more_taken (Ok u) old new e kept same = (e ∷ [], kept)
+more_taken (Ok done) old new e kept same = (e ∷ [], kept)
 more_taken (Err f) old new e kept same = ([], ap taken same ∙ sym (append-nil (taken old)))

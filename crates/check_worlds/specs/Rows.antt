@@ -31,7 +31,8 @@ pub record HasHandledBoth (old new : NodeState) (first second : Asked) (outs : E
   pub other : HasHandled between new second outs.1
 
 -- The node took the second step, from its first state or from that after it refused the first step.
-pub record HasHandledLater (old new : NodeState) (first second : Asked) (out : Effects) : Type 0 where
+pub record HasHandledLater (old new : NodeState) (first second : Asked) (out : Effects) :
+    Type 0 where
   pub left : NodeState
   pub refused : (left ≡ old) ⊎ (left ≡ after_refusal old first)
   pub handled : HasHandled left new second out

@@ -22,7 +22,8 @@ pub fn take_two(world: &mut World<'_>, first: &Event, second: &Event) -> Result<
     ensures grows { IsBeginningOf world.old.world.agreed world.new.world.agreed }
 {
     world.step(first)?;
-    world.step(second)
+    world.step(second)?;
+    Ok(())
 }
 
 /// Takes two events. No node then holds another package for a path than a node held before.
@@ -35,7 +36,7 @@ pub fn take_two_alike(
 {
     events_have_one_answer();
     world.step(first)?;
-    world.step(second)
+    world.step(second).map(|_| ())
 }
 
 /// Runs events, and takes one more.
@@ -57,7 +58,7 @@ pub fn run_and_take<'a>(
         Err(stopped) => return Err(stopped.fault),
     };
     match world.step(last) {
-        Ok(()) => Ok(world),
+        Ok(_) => Ok(world),
         Err(fault) => {
             drop(world);
             Err(fault)

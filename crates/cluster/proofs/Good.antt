@@ -4,7 +4,7 @@ use Rattle.clap.specs.Words.{Row, Text}
 use Rattle.cluster.specs.Stopped.{IsGood}
 use Rattle.dpbn_cli.specs.Calls.{ArePeers, IsCallOf}
 use Rattle.dpbn_cli.specs.declared.Call.{Call}
-use Rattle.dpbn_cli.specs.declared.Call.TheVariants.{Build, Cluster, Key, Node}
+use Rattle.dpbn_cli.specs.declared.Call.TheVariants.{Build, Cluster, Explain, Key, Node, Release}
 use Rattle.dpbn_cli.specs.declared.Peers.{Peers}
 use Rattle.dpbn_cli.specs.declared.Peers.TheVariants.{Base, Hosts}
 use Rattle.dpbn_build.specs.Build.{AreGood}
@@ -21,3 +21,5 @@ good_call (Some (name, rows)) (Node files me peers patience run) is =
 good_call (Some (name, rows)) (Build site me peers patience run) is =
     (is.1.members.2, good_peers rows peers is.2.1)
 good_call (Some (name, rows)) (Key file) is = tt
+good_call (Some (name, rows)) (Explain number) is = tt
+good_call (Some (name, rows)) Release is = tt

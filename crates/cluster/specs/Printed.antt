@@ -1,12 +1,13 @@
 -- What the program prints, and its exit status.
-use Rattle.std.specs.Prelude.{◌≡◌, ℕ, List, [], Option}
+use Rattle.std.specs.Prelude.{◌≡◌, ℕ, List, [], Option, codes}
 use Rattle.std.specs.Io.KnownBytes.{Appends}
 use Rattle.clap.specs.Words.{Text as Word}
 use Rattle.dpbn_build.specs.Build.{IsBuildText, IsNodeText}
 use Rattle.dpbn_cluster.specs.Cluster.{IsClusterText}
 use Rattle.dpbn_cli.specs.Calls.{AreTaken, IsCallOf, matched}
 use Rattle.dpbn_cli.specs.declared.Call.{Call}
-use Rattle.dpbn_cli.specs.declared.Call.TheVariants.{Build, Cluster, Key, Node}
+use Rattle.dpbn_cli.specs.declared.Call.TheVariants.{Build, Cluster, Explain, Key, Node, Release}
+use Rattle.dpbr_cli.specs.Explaining.{explanation, release_line}
 use Rattle.faults.specs.Bytes.{Text}
 use Rattle.program_io.specs.Printing.{AppendsBeginning}
 
@@ -19,6 +20,8 @@ IsOutputOf (Node files me peers patience run) status text =
 IsOutputOf (Build site me peers patience run) status text =
     IsBuildText site me peers run text status
 IsOutputOf (Key file) status text = (status ≡ 0) × (text ≡ [])
+IsOutputOf (Explain number) status text = (status ≡ 0) × (text ≡ explanation number)
+IsOutputOf Release status text = (status ≡ 0) × (text ≡ release_line (codes "dpbn"))
 
 -- what was written since, if that is known, is such a text, and this is its status
 pub record HasPrinted (call : Call) (status : ℕ) (before after : Option (List ℕ)) : Type 0 where

@@ -7,7 +7,7 @@ use Rattle.dpbn_build.specs.Build.{AreGood, RefusesBuild, RefusesNode}
 use Rattle.dpbn_cluster.specs.Cluster.{RefusesCluster}
 use Rattle.dpbn_cli.specs.Calls.{AreTaken, IsCallOf, faults_of, matched}
 use Rattle.dpbn_cli.specs.declared.Call.{Call}
-use Rattle.dpbn_cli.specs.declared.Call.TheVariants.{Build, Cluster, Key, Node}
+use Rattle.dpbn_cli.specs.declared.Call.TheVariants.{Build, Cluster, Explain, Key, Node, Release}
 use Rattle.program_io.specs.Refusals.{IsSystemRefusal, device_refusal, memory_refusal}
 use Rattle.program_io.specs.Stops.{status_after}
 use Rattle.program_io.specs.declared.refusal.Refusal.{Refusal}
@@ -20,6 +20,8 @@ IsGood (Cluster files trace) = files.members ≤ 9
 IsGood (Node files me peers patience run) = (files.members ≤ 9) × AreGood peers
 IsGood (Build site me peers patience run) = (site.members ≤ 9) × AreGood peers
 IsGood (Key file) = ⊤
+IsGood (Explain number) = ⊤
+IsGood Release = ⊤
 
 -- what is reported about a call's values and files
 abbrev pub RefusesCall : Call → Refusal → Type 0
@@ -27,6 +29,8 @@ RefusesCall (Cluster files trace) r = RefusesCluster files r
 RefusesCall (Node files me peers patience run) r = RefusesNode files me peers run r
 RefusesCall (Build site me peers patience run) r = RefusesBuild site me peers run r
 RefusesCall (Key file) r = IsSystemRefusal r
+RefusesCall (Explain number) r = r ≡ memory_refusal
+RefusesCall Release r = r ≡ memory_refusal
 
 -- Nothing was written before a refusal, except before one that is reported as fault 2: in that case
 -- a beginning of the lines was written, maybe all of them.

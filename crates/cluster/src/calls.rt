@@ -1,5 +1,5 @@
 //! The calls of `dpbn`.
-ghost use Rattle.std.specs.Prelude.{◌≡◌, ◌≤◌, ◌⊎◌, [], IfErr, IfOk, map, string_bytes};
+ghost use Rattle.std.specs.Prelude.{◌≡◌, ◌≤◌, ◌⊎◌, [], IfErr, IfOk, codes, map, string_bytes};
 ghost use Rattle.std.specs.Io.KnownBytes.{Keeps};
 ghost use Rattle.cluster.specs.Printed.{HasCarriedOut, HasPrinted, IsOutputOf};
 ghost use Rattle.cluster.specs.Stopped.{
@@ -10,13 +10,16 @@ ghost use Rattle.cluster.specs.Stopped.{
   RefusesCall,
 };
 ghost use Rattle.dpbn_cli.specs.Calls.{AreTaken};
-ghost use Rattle.program_io.specs.Refusals.{IsSystemRefusal};
+ghost use Rattle.dpbr_cli.specs.Explaining.{explanation, release_line};
+ghost use Rattle.program_io.specs.Refusals.{IsSystemRefusal, memory_refusal};
 
 use dpbn_build::{build_of_words, node_of_words};
 use dpbn_cli::{Call, dpbn_words};
 use dpbn_cluster::cluster_of_words;
 use dpbn_key::make_key;
+use dpbr_cli::{explanation, release_text};
 use program_io::{Answer, Refusal, Stop, print};
+use std::alloc::Global;
 use std::io::Write;
 
 /// Carries out the call that the arguments make, and returns the exit status:
@@ -123,7 +126,29 @@ fn answer_to<E: Write>(rt: &HostRuntime, call: &Call<'_>, err: &mut E) -> Result
             run,
         } => build_of_words(rt, site, *me, peers, *patience, run, err),
         Call::Key { file } => made_key(rt, file),
+        Call::Explain { number } => explained(rt.alloc(), *number),
+        Call::Release => release(rt.alloc()),
     }
+}
+
+/// The explanation of a fault.
+fn explained(alloc: Global, number: u16) -> Result<Answer, Refusal>
+    ensures output { IfOk result
+        (λ answer. (answer.status ≡ 0) × (answer.text.items ≡ explanation number)) }
+    ensures refused { IfErr result (λ r. r ≡ memory_refusal) }
+{
+    let text = explanation(alloc, number)?.into_bytes();
+    Ok(Answer { text, status: 0 })
+}
+
+/// The program's name and its release.
+fn release(alloc: Global) -> Result<Answer, Refusal>
+    ensures output { IfOk result
+        (λ answer. (answer.status ≡ 0) × (answer.text.items ≡ release_line (codes "dpbn"))) }
+    ensures refused { IfErr result (λ r. r ≡ memory_refusal) }
+{
+    let text = release_text(alloc, "dpbn")?.into_bytes();
+    Ok(Answer { text, status: 0 })
 }
 
 /// Makes a file with a new key, and returns an empty text.

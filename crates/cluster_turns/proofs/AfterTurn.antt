@@ -5,7 +5,7 @@ use Rattle.std.proofs.lemmas.Option.{slice_get_within}
 use Rattle.turn_rules.specs.Acts.{asked_by}
 use Rattle.turn_rules.specs.Pending.{Pending, has_failed, kept_after, with_failed}
 use Rattle.turn_rules.specs.declared.fault.TurnFault.{TurnFault}
-use Rattle.cluster_turns.specs.Handed.{Handed}
+use Rattle.protocol.specs.Given.{Given}
 use Rattle.cluster_turns.specs.declared.chosen.Chosen.{Chosen as PreparedStep}
 use Rattle.protocol.specs.Events.{Event, event_view}
 use Rattle.protocol.specs.declared.event.Event as declared
@@ -57,12 +57,12 @@ pub record StandsThen {D P : Type 0} (is_kept : D → Type 0) (history : D → H
 
 module _ {D P : Type 0} (is_kept : D → Type 0) (history : D → History) (failures : D → ℕ)
     (given : P → Option (List Arrived)) (offered : P → Option (List Parcel))
-    (old new : ClusterState D P) (handed : Handed) (division : new.division ≡ old.division)
+    (old new : ClusterState D P) (builds : Given) (division : new.division ≡ old.division)
     (weights : new.weights ≡ old.weights) (count : length old.nodes ≡ length old.weights)
     (w : World) (is : IsWorldOf old w) (on_logs : AreOnLogs is_kept history old) where
   abbrev IsTurnOf : Result (Option declared.Event) TurnFault → Type 0
   IsTurnOf result =
-      IsTurn is_kept history failures given offered (turning_of old) (turning_of new) handed result
+      IsTurn is_kept history failures given offered (turning_of old) (turning_of new) builds result
 
   abbrev StandsStillHere : Type 0
   StandsStillHere = StandsStill is_kept history offered (turning_of old) (turning_of new)
@@ -140,5 +140,5 @@ module _ {D P : Type 0} (is_kept : D → Type 0) (history : D → History) (fail
   stands_then (Ok None) t = still_then t.1
   stands_then (Ok (Some e)) t = taken_then t.0 (event_view e) t.2
   stands_then (Err f) t = ⊎_elim still_then (λ down. down_then down.2.0 down.2.1 down.2.3)
-      (still_or_down is_kept history failures given offered old new handed division weights count w is
+      (still_or_down is_kept history failures given offered old new builds division weights count w is
       on_logs f t)

@@ -1,7 +1,7 @@
 -- A turn, seen by the calls of its port.
 use Rattle.std.proofs.Common.{◌≡◌, ℕ, List, [], ◌++◌, Option, None, Some, Result, Ok, Err, length, map, refl}
 use Rattle.turn_rules.specs.declared.fault.TurnFault.{TurnFault}
-use Rattle.cluster_turns.specs.Handed.{Handed}
+use Rattle.protocol.specs.Given.{Given}
 use Rattle.protocol.specs.declared.event.Event as declared
 use Rattle.turn_rules.specs.Calls.{TurnCalls, given_in, no_calls, offered_in}
 use Rattle.datagram_ports.proofs.Calls.{WentThrough-append}
@@ -10,7 +10,7 @@ use Rattle.datagram_ports.specs.Kept.{Arrived}
 use Rattle.datagram_ports.specs.declared.fault.PortFault.{PortFault}
 use Rattle.stable_record.specs.History.{History}
 use Rattle.cluster_turns.proofs.Turns.{Promises, promises}
-use Rattle.cluster_turns.specs.Calls.{HasCalledFor, IsByCallsFor, with_calls}
+use Rattle.cluster_turns.specs.Calls.{HasCalled, IsByCalls, with_calls}
 use Rattle.cluster_turns.specs.State.{AreOnLogs, ClusterState, IsWorldOf}
 use Rattle.cluster_turns.specs.inside.Turning.{IsTurn, IsTurnByCalls, turning_of}
 use Rattle.world.specs.World.{World}
@@ -35,7 +35,7 @@ world_with c calls w is = record {
 }
 
 module _ {D P : Type 0} (is_kept : D → Type 0) (history : D → History) (failures : D → ℕ)
-    (old new : ClusterState D P) (handed : Handed) (division : new.division ≡ old.division)
+    (old new : ClusterState D P) (builds : Given) (division : new.division ≡ old.division)
     (weights : new.weights ≡ old.weights) (count : length old.nodes ≡ length old.weights)
     (w : World) (is : IsWorldOf old w) (on_logs : AreOnLogs is_kept history old)
     (calls : TurnCalls) where
@@ -48,33 +48,33 @@ module _ {D P : Type 0} (is_kept : D → Type 0) (history : D → History) (fail
   abbrev IsTurnThere : Result (Option declared.Event) TurnFault → Type 0
   IsTurnThere result =
       IsTurn is_kept history failures given_in offered_in (turning_of first) (turning_of last)
-      handed result
+      builds result
 
   -- what it promises, seen by its calls
   there : (result : Result (Option declared.Event) TurnFault) → IsTurnThere result
-      → Promises is_kept history failures given_in offered_in first last handed result
+      → Promises is_kept history failures given_in offered_in first last builds result
   there result t =
-      promises is_kept history failures given_in offered_in first last handed division weights
+      promises is_kept history failures given_in offered_in first last builds division weights
       count w (world_with old no_calls w is) on_logs result t
 
   pub seen_by : (result : Result (Option declared.Event) TurnFault) → IsTurnThere result
-      → IsByCallsFor first last handed result
+      → IsByCalls first last builds result
   seen_by (Ok None) t = let p = there (Ok None) t in (p.nothing, p.offers)
   seen_by (Ok (Some e)) t = let p = there (Ok (Some e)) t in (p.chosen, p.offers)
   seen_by (Err f) t = let p = there (Err f) t in (p.faults, p.offers)
 
 -- these are the turn's calls
 pub has_called : {D P : Type 0} (is_kept : D → Type 0) (history : D → History) (failures : D → ℕ)
-    (does : P → Call → P → Type 0) (old new : ClusterState D P) (handed : Handed)
+    (does : P → Call → P → Type 0) (old new : ClusterState D P) (builds : Given)
     → new.division ≡ old.division → new.weights ≡ old.weights
     → length old.nodes ≡ length old.weights → (w : World) → IsWorldOf old w
     → AreOnLogs is_kept history old → (result : Result (Option declared.Event) TurnFault)
-    → IsTurnByCalls is_kept history failures does (turning_of old) (turning_of new) handed result
-    → HasCalledFor does old new handed result
-has_called is_kept history failures does old new handed division weights count w is on_logs result
+    → IsTurnByCalls is_kept history failures does (turning_of old) (turning_of new) builds result
+    → HasCalled does old new builds result
+has_called is_kept history failures does old new builds division weights count w is on_logs result
     t = record {
       calls = t.calls;
       went = t.went;
-      by_calls = seen_by is_kept history failures old new handed division weights count w is on_logs
+      by_calls = seen_by is_kept history failures old new builds division weights count w is on_logs
           t.calls result t.so;
     }

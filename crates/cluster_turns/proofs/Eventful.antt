@@ -6,7 +6,8 @@ use Rattle.std.specs.Prelude.{is_none, is_some, option_and_then, option_map, pos
 use Rattle.std.specs.Str.{bytes_eq}
 use Rattle.claims.specs.declared.claim.Claim.{Claim}
 use Rattle.turn_rules.specs.Answering.{answer_of, answer_to, built_of, given_for}
-use Rattle.turn_rules.specs.Choice.{Chosen, Here, IsFirstOwn, IsOwnIf, barred_at, job_at}
+use Rattle.turn_rules.specs.Choice.{Chosen, Here, barred_at}
+use Rattle.cluster_turns.specs.Choice.{IsFirstOwn, IsOwnIf, job_at}
 use Rattle.turn_rules.specs.Own.{Barred, IsOwnBy, claim_of, renewed}
 use Rattle.turn_rules.specs.Pending.{Pending, above_at}
 use Rattle.protocol.specs.Events.{Deliver}

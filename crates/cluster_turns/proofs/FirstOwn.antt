@@ -2,7 +2,8 @@
 use Rattle.std.proofs.Common.{◌≡◌, ◌++◌, ℕ, List, [], ◌∷◌, Option, None, Some, refl}
 use Rattle.node.specs.Step.{Does}
 use Rattle.protocol.specs.declared.input.Input.{Input}
-use Rattle.turn_rules.specs.Choice.{Chosen, Here, IsDoneOr, IsFirstOwn, IsOwnIf}
+use Rattle.turn_rules.specs.Choice.{Chosen, Here, IsDoneOr}
+use Rattle.cluster_turns.specs.Choice.{IsFirstOwn, IsOwnIf}
 use Rattle.turn_rules.specs.Pending.{Pending}
 
 module _ (here : Here) (count : ℕ) (p : Pending) where

@@ -3,7 +3,7 @@ use Rattle.std.proofs.Common.{◌≡◌, ◌≢◌, ◌<◌, ◌+◌, ◌-◌, �
 use Rattle.std.specs.List.{range_with_len}
 use Rattle.std.specs.Prelude.{is_some, option_and_then, option_map, slice_index_or}
 use Rattle.turn_rules.specs.Answering.{answer_of}
-use Rattle.turn_rules.specs.Choice.{first_job, job_at}
+use Rattle.cluster_turns.specs.Choice.{first_job, job_at}
 use Rattle.turn_rules.specs.declared.fault.TurnFault.{TurnFault}
 use Rattle.faults.specs.Answers.{first_given, option_or}
 use Rattle.listing.proofs.First.{first_given-append}

@@ -9,15 +9,12 @@ mod Choosings
 mod Disks
 mod Elsewhere
 mod EventOf
-pub mod Eventful
+mod Eventful
 mod FirstOwn
-mod Firsts
 mod Fresh
-mod Going
 mod GoingDown
 mod Jobs
 mod Led
-mod LiveEvents
 mod Moving
 mod OneStep
 mod Openings
@@ -30,4 +27,4 @@ mod Standing
 mod Stepping
 mod Still
 mod Turns
-pub mod Unfailed
+mod Unfailed

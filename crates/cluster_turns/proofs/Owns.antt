@@ -2,7 +2,8 @@
 use Rattle.std.proofs.Common.{◌≡◌, ◌≤◌, ◌<◌, ◌+◌, ◌-◌, ◌==◌, ◌||◌, ◌++◌, ℕ, true, false, List, Option, None, Some, drop, length, slice_get, take, sym, ap, subst, ◌∙◌, arith, inl, inr}
 use Rattle.std.specs.List.{list_any, range_with_len}
 use Rattle.std.specs.Prelude.{is_some, slice_index_or}
-use Rattle.turn_rules.specs.Choice.{Chosen, Here, IsFirstOwn, IsOwnIf, in_turn, is_elsewhere}
+use Rattle.turn_rules.specs.Choice.{Chosen, Here, in_turn, is_elsewhere}
+use Rattle.cluster_turns.specs.Choice.{IsFirstOwn, IsOwnIf}
 use Rattle.turn_rules.specs.Own.{IsOwn}
 use Rattle.turn_rules.specs.Pending.{Pending, above_at, has_failed}
 use Rattle.turn_rules.specs.declared.fault.TurnFault.{TurnFault}

@@ -9,7 +9,8 @@ use Rattle.turn_rules.specs.Pending.{Pending, kept_after}
 use Rattle.turn_rules.specs.declared.fault.TurnFault.{TurnFault}
 use Rattle.turn_rules.specs.declared.fault.TurnFault.TheVariants as refused
 use Rattle.cluster_turns.specs.Choosing.{HasChosen, IsChosenAs, IsReadiedAt, looked_for, told}
-use Rattle.cluster_turns.specs.Handed.{Handed, answers_first}
+use Rattle.cluster_turns.specs.Choice.{has_job}
+use Rattle.protocol.specs.Given.{Given}
 use Rattle.cluster_turns.specs.Here.{here_in}
 use Rattle.cluster_turns.specs.Recording.{IsRecorded, IsStopOf}
 use Rattle.cluster_turns.specs.declared.chosen.Chosen.{Chosen as PreparedStep}
@@ -255,10 +256,10 @@ module _ {D P : Type 0} (is_kept : D → Type 0) (history : D → History) (fail
 
 -- what was chosen is prepared
 pub ready_as : {D : Type 0} (nodes : List (LoggedNode D)) (sent : List Text) (p : Pending)
-    (handed : Handed) (a b : Option (List Arrived)) (r : PreparedStep)
-    → HasChosen nodes sent p handed a b (Some r)
+    (builds : Given) (a b : Option (List Arrived)) (r : PreparedStep)
+    → HasChosen nodes sent p builds a b (Some r)
     → IsReadiedAt nodes r.node (asked_by r.readied.act) r.readied
-ready_as nodes sent p handed a b r made = by made.chosen made.readied
+ready_as nodes sent p builds a b r made = by made.chosen made.readied
   where
     by : (chosen : Chosen) → IsChosenAs nodes chosen (Some r)
         → IsReadiedAt nodes r.node (asked_by r.readied.act) r.readied
@@ -269,14 +270,14 @@ ready_as nodes sent p handed a b r made = by made.chosen made.readied
 
 -- and nothing more was received
 pub made_later : {D : Type 0} (nodes : List (LoggedNode D)) (sent : List Text) (p : Pending)
-    (handed : Handed) (a b c : Option (List Arrived)) (o : Option PreparedStep)
-    → HasChosen nodes sent p handed a b o → GoesOnBy [] b c → HasChosen nodes sent p handed a c o
-made_later nodes sent p handed a b c o made goes = record {
+    (builds : Given) (a b c : Option (List Arrived)) (o : Option PreparedStep)
+    → HasChosen nodes sent p builds a b o → GoesOnBy [] b c → HasChosen nodes sent p builds a c o
+made_later nodes sent p builds a b c o made goes = record {
   chosen = made.chosen;
   is_chosen = record {
     came = made.is_chosen.came;
     looked = goes_on_then
-        (looked_for (answers_first handed (here_in nodes) (length nodes)) made.is_chosen.came) a b c
+        (looked_for (has_job (here_in nodes) (length nodes) builds) made.is_chosen.came) a b c
         made.is_chosen.looked goes;
     choice = made.is_chosen.choice;
   };
@@ -337,16 +338,16 @@ module _ {D P : Type 0} (is_kept : D → Type 0) (history : D → History) (fail
   taken_before (Err refused.NotSent) t = absurd t
   taken_before (Err refused.NotFresh) t = absurd t
 
-  module _ (handed : Handed) (nodes : List (LoggedNode D)) (same : old.nodes ≡ nodes)
-      (made : HasChosen old.nodes old.sent old.pending handed (given p) (given old.port) (Some r))
+  module _ (builds : Given) (nodes : List (LoggedNode D)) (same : old.nodes ≡ nodes)
+      (made : HasChosen old.nodes old.sent old.pending builds (given p) (given old.port) (Some r))
       (goes : GoesOnBy [] (given old.port) (given new.port)) where
     abbrev at_first : List (LoggedNode D) → Turning D P
     at_first ns = record old { nodes = ns; port = p }
 
-    made_first : IsMadeReady given (at_first nodes) new handed (Some r)
+    made_first : IsMadeReady given (at_first nodes) new builds (Some r)
     made_first =
-        subst (λ ns. IsMadeReady given (at_first ns) new handed (Some r)) same
-        (made_later old.nodes old.sent old.pending handed (given p) (given old.port)
+        subst (λ ns. IsMadeReady given (at_first ns) new builds (Some r)) same
+        (made_later old.nodes old.sent old.pending builds (given p) (given old.port)
         (given new.port) (Some r) made goes)
 
     taken_first : (result : Result declared.Event TurnFault)
@@ -359,12 +360,12 @@ module _ {D P : Type 0} (is_kept : D → Type 0) (history : D → History) (fail
     -- it is the turn
     pub turned : (e : declared.Event)
         → IsTakenAs is_kept history failures offered old new r (Ok e)
-        → IsTurn is_kept history failures given offered (at_first nodes) new handed (Ok (Some e))
+        → IsTurn is_kept history failures given offered (at_first nodes) new builds (Ok (Some e))
     turned e t = (r, made_first, taken_first (Ok e) t)
 
     pub turned_not : (f : TurnFault)
         → IsTakenAs is_kept history failures offered old new r (Err f)
-        → IsTurn is_kept history failures given offered (at_first nodes) new handed (Err f)
+        → IsTurn is_kept history failures given offered (at_first nodes) new builds (Err f)
     turned_not f t = inr (r, made_first, taken_first (Err f) t)
 
 -- ---- how it is reported

@@ -7,7 +7,8 @@ use Rattle.turn_rules.specs.declared.fault.TurnFault.{TurnFault}
 use Rattle.turn_rules.specs.declared.fault.TurnFault.TheVariants as refused
 use Rattle.cluster_turns.specs.Choosing.{IsChosenAs, IsChosenBy, looked_for}
 use Rattle.cluster_turns.specs.Events.{event_of}
-use Rattle.cluster_turns.specs.Handed.{Handed, IsChoiceBy, answers_first}
+use Rattle.cluster_turns.specs.Choice.{IsChoiceWith, has_job}
+use Rattle.protocol.specs.Given.{Given}
 use Rattle.cluster_turns.specs.Here.{here_in}
 use Rattle.cluster_turns.specs.declared.chosen.Chosen.{Chosen as PreparedStep}
 use Rattle.protocol.specs.Events.{Event, StopIn, event_view, node_of}
@@ -19,9 +20,9 @@ use Rattle.stable_record.specs.History.{History}
 use Rattle.cluster_turns.proofs.Moving.{full_there, has_failed_at, has_happened, keeps_with, leaves_notes, offers_sends, others_stay, taken_leaves, went_down}
 use Rattle.cluster_turns.proofs.Refusing.{refused_so, some_of}
 use Rattle.cluster_turns.proofs.Still.{are_untouched, is_same}
-use Rattle.cluster_turns.specs.Faults.{IsLeftBy, IsTurnFaultFor}
+use Rattle.cluster_turns.specs.Faults.{IsLeftBy, IsTurnFault}
 use Rattle.cluster_turns.specs.State.{AreOnLogs, ClusterState, IsWorldOf, taken}
-use Rattle.cluster_turns.specs.Turn.{AreUntouched, HasFailedAt, HasHappened, IsChosenFor, IsEventChosenFor, IsSame, KeepsWith, LeavesItsNotes, Offers, OffersNothing, OthersStay, WentDown}
+use Rattle.cluster_turns.specs.Turn.{AreUntouched, HasFailedAt, HasHappened, IsChosen, IsEventChosen, IsSame, KeepsWith, LeavesItsNotes, Offers, OffersNothing, OthersStay, WentDown}
 use Rattle.cluster_turns.specs.inside.Turning.{GoesDown, IsDue, IsMadeReady, IsTurn, StandsStill, turning_of}
 use Rattle.world.specs.Happening.{IsRefused}
 use Rattle.world.specs.World.{World}
@@ -30,17 +31,17 @@ use Rattle.world.specs.declared.fault.WorldFault.TheVariants as worlds
 -- What a turn with this result promises.
 pub record Promises {D P : Type 0} (is_kept : D → Type 0) (history : D → History)
     (failures : D → ℕ) (given : P → Option (List Arrived)) (offered : P → Option (List Parcel))
-    (old new : ClusterState D P) (handed : Handed)
+    (old new : ClusterState D P) (builds : Given)
     (result : Result (Option declared.Event) TurnFault) : Type 0 where
   pub chosen : IfOk result (λ o. IfSome o
-      (λ e. IsEventChosenFor given old new handed (event_view e)))
-  pub nothing : IfOk result (λ o. IfNone o (IsChosenFor given old new handed None))
+      (λ e. IsEventChosen given old new builds (event_view e)))
+  pub nothing : IfOk result (λ o. IfNone o (IsChosen given old new builds None))
   pub happened : IfOk result (λ o. IfSome o (λ e. HasHappened old new (event_view e)))
   pub others : IfOk result (λ o. IfSome o (λ e. OthersStay old new (node_of (event_view e))))
   pub offers : Offers offered old new result
   pub pending : IfOk result (λ o. IfSome o (λ e. KeepsWith old new (event_view e)))
   pub same : IfOk result (λ o. IfNone o (IsSame old new))
-  pub faults : IfErr result (IsTurnFaultFor given old new handed)
+  pub faults : IfErr result (IsTurnFault given old new builds)
   pub leaves : IfErr result (IsLeftBy old new)
   pub untouched : IfErr result
       (λ f. ((k : ℕ) × (f ≡ refused.Down k)) ⊎ AreUntouched is_kept history old new)
@@ -54,12 +55,12 @@ pub record Promises {D P : Type 0} (is_kept : D → Type 0) (history : D → His
 
 module _ {D P : Type 0} (is_kept : D → Type 0) (history : D → History) (failures : D → ℕ)
     (given : P → Option (List Arrived)) (offered : P → Option (List Parcel))
-    (old new : ClusterState D P) (handed : Handed) (division : new.division ≡ old.division)
+    (old new : ClusterState D P) (builds : Given) (division : new.division ≡ old.division)
     (weights : new.weights ≡ old.weights) (count : length old.nodes ≡ length old.weights)
     (w : World) (is : IsWorldOf old w) (on_logs : AreOnLogs is_kept history old) where
   abbrev IsTurnOf : Result (Option declared.Event) TurnFault → Type 0
   IsTurnOf result =
-      IsTurn is_kept history failures given offered (turning_of old) (turning_of new) handed result
+      IsTurn is_kept history failures given offered (turning_of old) (turning_of new) builds result
 
   abbrev StandsStillHere : Type 0
   StandsStillHere = StandsStill is_kept history offered (turning_of old) (turning_of new)
@@ -67,12 +68,12 @@ module _ {D P : Type 0} (is_kept : D → Type 0) (history : D → History) (fail
   -- ---- the choice
 
   chosen_is : (chosen : Chosen) → IsChosenBy (here_in old.nodes) (length old.nodes) old.pending
-      handed (given old.port) (given new.port) chosen → IsChosenFor given old new handed chosen
+      builds (given old.port) (given new.port) chosen → IsChosen given old new builds chosen
   chosen_is chosen by = record {
     came = by.came;
-    looked = subst (λ m. GoesOnBy (looked_for (answers_first handed (here_in old.nodes) m) by.came)
+    looked = subst (λ m. GoesOnBy (looked_for (has_job (here_in old.nodes) m builds) by.came)
         (given old.port) (given new.port)) count by.looked;
-    choice = subst (λ m. IsChoiceBy handed (here_in old.nodes) m old.pending by.came chosen) count
+    choice = subst (λ m. IsChoiceWith (here_in old.nodes) m old.pending builds by.came chosen) count
         by.choice;
   }
 
@@ -89,12 +90,12 @@ module _ {D P : Type 0} (is_kept : D → Type 0) (history : D → History) (fail
       λ i. Some (number i, asked i)
 
   event_chosen : (r : PreparedStep) (e : Event)
-      → IsMadeReady given (turning_of old) (turning_of new) handed (Some r)
+      → IsMadeReady given (turning_of old) (turning_of new) builds (Some r)
       → IsDue old.nodes old.sent r e
-      → IsEventChosenFor given old new handed e
+      → IsEventChosen given old new builds e
   event_chosen r e made due = record {
     chosen = (r.node, asked_by r.readied.act);
-    is_chosen = subst (IsChosenFor given old new handed) (chosen_some made.chosen r made.readied)
+    is_chosen = subst (IsChosen given old new builds) (chosen_some made.chosen r made.readied)
         (chosen_is made.chosen made.is_chosen);
     event = due.event;
   }
@@ -110,11 +111,11 @@ module _ {D P : Type 0} (is_kept : D → Type 0) (history : D → History) (fail
 
   -- ---- refusals
 
-  fault_is : (f : TurnFault) → IsTurnOf (Err f) → IsTurnFaultFor given old new handed f
+  fault_is : (f : TurnFault) → IsTurnOf (Err f) → IsTurnFault given old new builds f
   fault_is refused.Memory (inl t) = (t.0.0, chosen_is (Some t.0.0) t.0.1)
   fault_is refused.Memory (inr t) = (
     (t.0.node, asked_by t.0.readied.act),
-    subst (IsChosenFor given old new handed) (chosen_some t.1.chosen t.0 t.1.readied)
+    subst (IsChosen given old new builds) (chosen_some t.1.chosen t.0 t.1.readied)
         (chosen_is t.1.chosen t.1.is_chosen),
   )
   fault_is (refused.Node f) (inl (refuses, still)) =
@@ -196,10 +197,10 @@ module _ {D P : Type 0} (is_kept : D → Type 0) (history : D → History) (fail
   -- ---- by the result
 
   pub promises : (result : Result (Option declared.Event) TurnFault) → IsTurnOf result
-      → Promises is_kept history failures given offered old new handed result
+      → Promises is_kept history failures given offered old new builds result
   promises (Ok None) t = record {
     chosen = tt;
-    nothing = subst (IsChosenFor given old new handed) (chosen_none t.0.chosen t.0.readied)
+    nothing = subst (IsChosen given old new builds) (chosen_none t.0.chosen t.0.readied)
         (chosen_is t.0.chosen t.0.is_chosen);
     happened = tt;
     others = tt;

@@ -1,15 +1,14 @@
 -- A turn, seen by the calls that it makes to the port.
 use Rattle.std.specs.Prelude.{Option, None, Some, Result, Ok, Err}
 use Rattle.turn_rules.specs.declared.fault.TurnFault.{TurnFault}
-use Rattle.cluster_turns.specs.Handed.{AllBuilds, Handed}
 use Rattle.protocol.specs.Events.{event_view}
 use Rattle.protocol.specs.declared.event.Event as declared
 use Rattle.turn_rules.specs.Calls.{TurnCalls, calls_of, given_in, no_calls, offered_in}
 use Rattle.datagram_ports.specs.Calls.{Call, WentThrough}
 use Rattle.protocol.specs.Given.{Given}
-use Rattle.cluster_turns.specs.Faults.{IsTurnFaultFor}
+use Rattle.cluster_turns.specs.Faults.{IsTurnFault}
 use Rattle.cluster_turns.specs.State.{ClusterState}
-use Rattle.cluster_turns.specs.Turn.{IsChosenFor, IsEventChosenFor, OffersItsSends, OffersNothing}
+use Rattle.cluster_turns.specs.Turn.{IsChosen, IsEventChosen, OffersItsSends, OffersNothing}
 
 -- the cluster, with these calls in place of its port
 abbrev pub with_calls : {D P : Type 0} → ClusterState D P → TurnCalls → ClusterState D TurnCalls
@@ -25,31 +24,21 @@ with_calls c calls = record {
 
 -- The turn, seen by its calls: the choice depends on what they returned, and they offered exactly
 -- what the turn's step sends, or nothing if it took none.
-abbrev pub IsByCallsFor : {D : Type 0} → ClusterState D TurnCalls → ClusterState D TurnCalls
-    → Handed → Result (Option declared.Event) TurnFault → Type 0
-IsByCallsFor old new handed (Ok None) =
-    IsChosenFor given_in old new handed None × OffersNothing offered_in old new
-IsByCallsFor old new handed (Ok (Some e)) =
-    IsEventChosenFor given_in old new handed (event_view e)
+abbrev pub IsByCalls : {D : Type 0} → ClusterState D TurnCalls → ClusterState D TurnCalls
+    → Given → Result (Option declared.Event) TurnFault → Type 0
+IsByCalls old new builds (Ok None) =
+    IsChosen given_in old new builds None × OffersNothing offered_in old new
+IsByCalls old new builds (Ok (Some e)) =
+    IsEventChosen given_in old new builds (event_view e)
     × OffersItsSends offered_in old new (event_view e)
-IsByCallsFor old new handed (Err f) =
-    IsTurnFaultFor given_in old new handed f × OffersNothing offered_in old new
-
--- the turn seen by its calls, if all builds are there from the start
-abbrev pub IsByCalls : {D : Type 0} → ClusterState D TurnCalls → ClusterState D TurnCalls → Given
-    → Result (Option declared.Event) TurnFault → Type 0
-IsByCalls old new builds result = IsByCallsFor old new (AllBuilds builds) result
+IsByCalls old new builds (Err f) =
+    IsTurnFault given_in old new builds f × OffersNothing offered_in old new
 
 -- The port went through exactly these calls in the turn, and seen by them it is this turn. So it
 -- was asked to receive once, or not at all if a job waited for its answer, and then to send each
 -- datagram that the step sends, once and in order.
-pub record HasCalledFor {D P : Type 0} (does : P → Call → P → Type 0) (old new : ClusterState D P)
-    (handed : Handed) (result : Result (Option declared.Event) TurnFault) : Type 0 where
+pub record HasCalled {D P : Type 0} (does : P → Call → P → Type 0) (old new : ClusterState D P)
+    (builds : Given) (result : Result (Option declared.Event) TurnFault) : Type 0 where
   pub calls : TurnCalls
   pub went : WentThrough does old.port (calls_of calls) new.port
-  pub by_calls : IsByCallsFor (with_calls old no_calls) (with_calls new calls) handed result
-
--- the calls of the turn, if all builds are there from the start
-abbrev pub HasCalled : {D P : Type 0} → (P → Call → P → Type 0) → ClusterState D P
-    → ClusterState D P → Given → Result (Option declared.Event) TurnFault → Type 0
-HasCalled does old new builds result = HasCalledFor does old new (AllBuilds builds) result
+  pub by_calls : IsByCalls (with_calls old no_calls) (with_calls new calls) builds result

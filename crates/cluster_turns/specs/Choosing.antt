@@ -16,7 +16,8 @@ use Rattle.datagram_ports.specs.Calls.{Call, Received, WentThrough}
 use Rattle.datagram_ports.specs.Kept.{Arrived, GoesOnBy}
 use Rattle.datagram_ports.specs.declared.fault.PortFault.{PortFault}
 use Rattle.protocol.specs.declared.input.Input.{Input}
-use Rattle.cluster_turns.specs.Handed.{Handed, IsChoiceBy, answers_first}
+use Rattle.cluster_turns.specs.Choice.{IsChoiceWith, has_job}
+use Rattle.protocol.specs.Given.{Given}
 use Rattle.cluster_turns.specs.Here.{here_in}
 use Rattle.cluster_turns.specs.Events.{event_of}
 use Rattle.cluster_turns.specs.declared.chosen.Chosen.{Chosen as PreparedStep}
@@ -72,49 +73,49 @@ told (fault.Foreign f) = refused.Node (fault.Foreign f)
 
 -- It is the turn's choice, given what the port returned between the old record of receives and the
 -- new one.
-pub record IsChosenBy (here : Here) (count : ℕ) (p : Pending) (handed : Handed)
+pub record IsChosenBy (here : Here) (count : ℕ) (p : Pending) (builds : Given)
     (old new : Option (List Arrived)) (chosen : Chosen) : Type 0 where
   pub came : Arrived
-  pub looked : GoesOnBy (looked_for (answers_first handed here count) came) old new
-  pub choice : IsChoiceBy handed here count p came chosen
+  pub looked : GoesOnBy (looked_for (has_job here count builds) came) old new
+  pub choice : IsChoiceWith here count p builds came chosen
 
 -- The turn's choice was prepared, and it is an event.
 pub record HasChosen {D : Type 0} (nodes : List (LoggedNode D)) (sent : List Text) (p : Pending)
-    (handed : Handed) (old new : Option (List Arrived)) (r : Option PreparedStep) : Type 0 where
+    (builds : Given) (old new : Option (List Arrived)) (r : Option PreparedStep) : Type 0 where
   pub chosen : Chosen
-  pub is_chosen : IsChosenBy (here_in nodes) (length nodes) p handed old new chosen
+  pub is_chosen : IsChosenBy (here_in nodes) (length nodes) p builds old new chosen
   pub readied : IsChosenAs nodes chosen r
   pub event : (x : _) → chosen ≡ Some x → is_some (event_of sent x) ≡ true
 
 -- the chosen node refuses what it would do on its own initiative
-abbrev pub IsRefusedOwn : {D : Type 0} → List (LoggedNode D) → List Text → Pending → Handed
+abbrev pub IsRefusedOwn : {D : Type 0} → List (LoggedNode D) → List Text → Pending → Given
     → Option (List Arrived) → Option (List Arrived) → NodeFault → Type 0
-IsRefusedOwn nodes sent p handed old new f =
+IsRefusedOwn nodes sent p builds old new f =
     (k : ℕ) × (input : Input)
-    × IsChosenBy (here_in nodes) (length nodes) p handed old new (Some (k, Does input))
+    × IsChosenBy (here_in nodes) (length nodes) p builds old new (Some (k, Does input))
     × (is_some (event_of sent (k, Does input)) ≡ true) × RefusesAt nodes k (Does input) f
 
 -- bytes were received for a node that is up, and no node sent them
-abbrev pub HasForeign : {D : Type 0} → List (LoggedNode D) → List Text → Pending → Handed
+abbrev pub HasForeign : {D : Type 0} → List (LoggedNode D) → List Text → Pending → Given
     → Option (List Arrived) → Option (List Arrived) → Type 0
-HasForeign nodes sent p handed old new =
+HasForeign nodes sent p builds old new =
     (k : ℕ) × (text : Text)
-    × IsChosenBy (here_in nodes) (length nodes) p handed old new (Some (k, Comes text))
+    × IsChosenBy (here_in nodes) (length nodes) p builds old new (Some (k, Comes text))
     × (is_among sent text ≡ false)
 
 -- Why nothing was prepared: memory ran out and there is something to do, the chosen node refuses
 -- what it would do on its own initiative, or bytes were received that no node sent.
-abbrev pub IsChoosingFault : {D : Type 0} → List (LoggedNode D) → List Text → Pending → Handed
+abbrev pub IsChoosingFault : {D : Type 0} → List (LoggedNode D) → List Text → Pending → Given
     → Option (List Arrived) → Option (List Arrived) → TurnFault → Type 0
-IsChoosingFault nodes sent p handed old new refused.Memory =
+IsChoosingFault nodes sent p builds old new refused.Memory =
     (chosen : ℕ × Asked)
-    × IsChosenBy (here_in nodes) (length nodes) p handed old new (Some chosen)
-IsChoosingFault nodes sent p handed old new (refused.Node f) =
-    IsRefusedOwn nodes sent p handed old new f
-IsChoosingFault nodes sent p handed old new (refused.Down k) = ⊥
-IsChoosingFault nodes sent p handed old new refused.NotSent =
-    HasForeign nodes sent p handed old new
-IsChoosingFault nodes sent p handed old new refused.NotFresh = ⊥
+    × IsChosenBy (here_in nodes) (length nodes) p builds old new (Some chosen)
+IsChoosingFault nodes sent p builds old new (refused.Node f) =
+    IsRefusedOwn nodes sent p builds old new f
+IsChoosingFault nodes sent p builds old new (refused.Down k) = ⊥
+IsChoosingFault nodes sent p builds old new refused.NotSent =
+    HasForeign nodes sent p builds old new
+IsChoosingFault nodes sent p builds old new refused.NotFresh = ⊥
 
 -- The port answered these receives, and no other calls. `IsSo` holds of what they returned, with an
 -- empty record before them.

@@ -1,10 +1,10 @@
 pub mod AnyCase
 pub mod Calls
+pub mod Choice
 pub mod Choosing
 pub mod Disks
 pub mod Events
 pub mod Faults
-pub mod Handed
 pub mod Headline
 pub mod Here
 pub mod Recording

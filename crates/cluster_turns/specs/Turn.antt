@@ -4,7 +4,7 @@ use Rattle.turn_rules.specs.Choice.{Chosen}
 use Rattle.turn_rules.specs.Pending.{kept_after}
 use Rattle.turn_rules.specs.declared.fault.TurnFault.{TurnFault}
 use Rattle.cluster_turns.specs.Choosing.{looked_for}
-use Rattle.cluster_turns.specs.Handed.{AllBuilds, Handed, IsChoiceBy, answers_first}
+use Rattle.cluster_turns.specs.Choice.{IsChoiceWith, has_job}
 use Rattle.cluster_turns.specs.Events.{event_of}
 use Rattle.protocol.specs.Events.{Event, StopIn, event_view, node_of}
 use Rattle.protocol.specs.declared.event.Event as declared
@@ -26,30 +26,20 @@ use Rattle.world.specs.World.{World, WorldNode}
 
 -- ---- the choice
 
--- It is the turn's choice for what is passed to the turn, given what the port returned in the turn.
-pub record IsChosenFor {D P : Type 0} (given : P → Option (List Arrived))
-    (old new : ClusterState D P) (handed : Handed) (chosen : Chosen) : Type 0 where
+-- It is the turn's choice with these builds, given what the port returned in the turn.
+pub record IsChosen {D P : Type 0} (given : P → Option (List Arrived))
+    (old new : ClusterState D P) (builds : Given) (chosen : Chosen) : Type 0 where
   pub came : Arrived
-  pub looked : GoesOnBy (looked_for (answers_first handed (here_of old) (length old.weights)) came)
+  pub looked : GoesOnBy (looked_for (has_job (here_of old) (length old.weights) builds) came)
       (given old.port) (given new.port)
-  pub choice : IsChoiceBy handed (here_of old) (length old.weights) old.pending came chosen
+  pub choice : IsChoiceWith (here_of old) (length old.weights) old.pending builds came chosen
 
--- the choice if all builds are there from the start
-abbrev pub IsChosen : {D P : Type 0} → (P → Option (List Arrived)) → ClusterState D P
-    → ClusterState D P → Given → Chosen → Type 0
-IsChosen given old new builds chosen = IsChosenFor given old new (AllBuilds builds) chosen
-
--- The event is the turn's choice for what is passed to the turn.
-pub record IsEventChosenFor {D P : Type 0} (given : P → Option (List Arrived))
-    (old new : ClusterState D P) (handed : Handed) (e : Event) : Type 0 where
+-- The event is the turn's choice with these builds.
+pub record IsEventChosen {D P : Type 0} (given : P → Option (List Arrived))
+    (old new : ClusterState D P) (builds : Given) (e : Event) : Type 0 where
   pub chosen : ℕ × Asked
-  pub is_chosen : IsChosenFor given old new handed (Some chosen)
+  pub is_chosen : IsChosen given old new builds (Some chosen)
   pub event : event_of old.sent chosen ≡ Some e
-
--- the chosen event if all builds are there from the start
-abbrev pub IsEventChosen : {D P : Type 0} → (P → Option (List Arrived)) → ClusterState D P
-    → ClusterState D P → Given → Event → Type 0
-IsEventChosen given old new builds e = IsEventChosenFor given old new (AllBuilds builds) e
 
 -- ---- what a turn changes
 

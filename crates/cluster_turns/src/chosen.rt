@@ -18,10 +18,11 @@ ghost use Rattle.std.specs.Prelude.{
   option_map,
   slice_get,
 };
-ghost use Rattle.turn_rules.specs.Choice.{comes_to, first_job, in_turn, is_elsewhere};
+ghost use Rattle.turn_rules.specs.Choice.{comes_to, in_turn, is_elsewhere};
 ghost use Rattle.faults.specs.Bytes.{is_among};
 ghost use Rattle.turn_rules.specs.Unfailed.{AllFailedBelow};
 ghost use Rattle.datagram_ports.specs.Kept.{GoesOnBy};
+ghost use Rattle.cluster_turns.specs.Choice.{first_job};
 ghost use Rattle.cluster_turns.specs.Choosing.{
   ByReceives,
   HasChosen,
@@ -31,7 +32,6 @@ ghost use Rattle.cluster_turns.specs.Choosing.{
   NoneIsForeign,
   told,
 };
-ghost use Rattle.cluster_turns.specs.Handed.{AllBuilds};
 ghost use Rattle.cluster_turns.specs.Here.{here_in};
 ghost use Rattle.cluster_turns.specs.Unfailed.{EachFailedBelow};
 ghost use Rattle.cluster_turns.specs.inside.Cases.{
@@ -95,17 +95,17 @@ pub fn choose<D: Disk, P: Port>(
     ensures below { EachFailedBelow nodes.old.items pending.now unfailed.new }
     ensures offered { GoesOnBy [] (P.offered port.old) (P.offered port.new) }
     ensures chosen { IfOk result (HasChosen nodes.new.items sent.now pending.now
-        (AllBuilds builds.now) (P.given port.old) (P.given port.new)) }
+        builds.now (P.given port.old) (P.given port.new)) }
     ensures refused { IfErr result (IsChoosingFault nodes.old.items sent.now pending.now
-        (AllBuilds builds.now) (P.given port.old) (P.given port.new)) }
+        builds.now (P.given port.old) (P.given port.new)) }
 
     // The choice, seen by the port's calls, even if it doesn't record them: it only received.
     ensures calls { IfOk result (λ r. ByReceives P.does port.old port.new
         (λ before after. HasChosen nodes.new.items sent.now pending.now
-        (AllBuilds builds.now) before after r)) }
+        builds.now before after r)) }
     ensures calls_refused { IfErr result (λ f. ByReceives P.does port.old port.new
         (λ before after. IsChoosingFault nodes.old.items sent.now pending.now
-        (AllBuilds builds.now) before after f)) }
+        builds.now before after f)) }
 {
     if let Some(chosen) = answered(alloc, nodes, builds)? {
         return Ok(Some(chosen));
@@ -161,7 +161,7 @@ fn answer_at<D: Disk>(
 }
 
 /// Receives a datagram. A receive that fails counts as one that returned nothing.
-pub(crate) fn received<P: Port>(port: &mut P) -> Option<(u8, Vec<u8>)>
+fn received<P: Port>(port: &mut P) -> Option<(u8, Vec<u8>)>
     ensures given { GoesOnBy (arrived result ∷ []) (P.given port.old) (P.given port.new) }
     ensures offered { GoesOnBy [] (P.offered port.old) (P.offered port.new) }
     ensures calls { WasReceived P.does port.old (arrived result) port.new }
@@ -174,7 +174,7 @@ pub(crate) fn received<P: Port>(port: &mut P) -> Option<(u8, Vec<u8>)>
 
 /// Prepares the node's step on a received datagram that is for it, if it is up. The datagram was
 /// sent by one of the nodes.
-pub(crate) fn taken_in<D: Disk>(
+fn taken_in<D: Disk>(
     alloc: Global,
     nodes: &mut Vec<Node<'_, D>>,
     sent: &Datagrams,
@@ -212,7 +212,7 @@ fn is_sent(alloc: Global, sent: &Datagrams, bytes: &[u8]) -> Result<bool, Memory
 }
 
 /// Whether there is a node with this number, and it is up.
-pub(crate) fn is_up<D: Disk>(nodes: &[Node<'_, D>], at: usize) -> bool
+fn is_up<D: Disk>(nodes: &[Node<'_, D>], at: usize) -> bool
     ensures { result ≡ is_some (here_in nodes.now at) }
 {
     match nodes.get(at) {

@@ -5,8 +5,6 @@
 
 mod chosen;
 mod cluster;
-mod live_choice;
-mod live_turn;
 mod opening;
 mod recording;
 mod taking;
@@ -14,5 +12,4 @@ mod turning;
 
 pub use crate::chosen::{Chosen, choose, told};
 pub use crate::cluster::Cluster;
-pub use crate::live_choice::choose_live;
 pub use crate::recording::{ReservedStep, events_of};

@@ -1,7 +1,6 @@
 //! The turns of a cluster.
 ghost use Rattle.std.specs.Prelude.{◌≡◌, ◌≤◌, ◌++◌, ◌∷◌, [], IfErr, IfNone, IfOk, IfSome, None, length};
 ghost use Rattle.cluster_turns.specs.Choosing.{NoneIsForeign};
-ghost use Rattle.cluster_turns.specs.Handed.{AllBuilds};
 ghost use Rattle.cluster_turns.specs.Unfailed.{EachFailedBelow};
 ghost use Rattle.protocol.specs.Events.{event_view, node_of};
 ghost use Rattle.cluster_turns.specs.Calls.{HasCalled};
@@ -95,11 +94,11 @@ fn take_turn<D: Disk, P: Port>(
     ensures turn { IsTurn D.is_kept D.history D.failures_of P.given P.offered
         (as_turning nodes.old.items sent.old events.old.items pending.old port.old)
         (as_turning nodes.new.items sent.new events.new.items pending.new port.new)
-        (AllBuilds builds.now) result }
+        builds.now result }
     ensures calls { IsTurnByCalls D.is_kept D.history D.failures_of P.does
         (as_turning nodes.old.items sent.old events.old.items pending.old port.old)
         (as_turning nodes.new.items sent.new events.new.items pending.new port.new)
-        (AllBuilds builds.now) result }
+        builds.now result }
 {
     match choose(alloc, nodes, port, sent, pending, unfailed, builds)? {
         Some(chosen) => {

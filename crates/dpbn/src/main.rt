@@ -1,6 +1,9 @@
 //! Nodes that build a listing's packages together, on hosts or in one process.
 #![tactic(auto)]
 
+mod lines;
+
+use crate::lines::Lines;
 use cluster::dpbn_main;
 use std::io::{ErrorKind, Write};
 use std::process::ExitCode;
@@ -8,13 +11,25 @@ use std::{env, io};
 
 fn main(rt: HostRuntime) -> ExitCode {
     let mut out = rt.stdout();
-    let mut err = rt.stderr();
     let Ok(words) = words(&rt) else {
-        let _ = writeln!(err, "dpbn: fault 1");
+        let _ = writeln!(rt.stderr(), "dpbn: fault 1");
         return ExitCode::FAILURE;
+    };
+    let mut err = if runs_a_node(words.as_slice()) {
+        Lines::that_never_wait(&rt)
+    } else {
+        Lines::Plain(rt.stderr())
     };
     let status = dpbn_main(&rt, words.as_slice(), &mut out, &mut err);
     ExitCode::from(status)
+}
+
+/// Whether these are the words of a node that runs until it is told to end, or for many turns.
+fn runs_a_node(words: &[String]) -> bool {
+    match words.get(1) {
+        Some(word) => word.as_str() == "node" || word.as_str() == "build",
+        None => false,
+    }
 }
 
 /// The arguments. If one isn't valid UTF-8, this is an empty list, which makes no call.

@@ -1,12 +1,13 @@
 -- A log that has no notes, and one on which no node starts.
-use Rattle.std.proofs.Common.{◌≡◌, Bool, Option, inl, inr, subst, sym}
+use Rattle.std.proofs.Common.{◌≡◌, ◌∙◌, Bool, Option, inl, inr, subst, sym}
 use Rattle.dpbn_build.specs.Build.{LacksNotes}
-use Rattle.dpbn_node.specs.Starts.{IsStartRefusal}
+use Rattle.dpbn_node.specs.Starts.{AnyMode, AnyRunFile, IsStartRefusal}
 use Rattle.faults.specs.Bytes.{Text}
 use Rattle.program_io.specs.declared.refusal.Refusal.{Refusal}
 use Rattle.run_file.specs.Found.{IsFound}
 use Rattle.run_file.specs.declared.judging.LogFound.TheVariants.{Absent, Blank, Fresh}
-use Rattle.stable_record.specs.History.{seen}
+use Rattle.run_file.specs.Starts.{IsStarted}
+use Rattle.stable_record.specs.History.{History, seen}
 use Rattle.stable_record.specs.RealFile.{file_agrees, file_history}
 use Rattle.stable_record.specs.declared.file_disk.FileDisk.{FileDisk}
 use Rattle.stable_record.specs.declared.identity.Identity.{Identity}
@@ -33,7 +34,28 @@ module _ (i : Identity) (before after : FileDisk)
 
 -- what is told of one owner's log is told of the other's, which is the same
 pub start_refusal : (i j : Identity) → i ≡ j → (r : Refusal)
-    → ((shown : Option Text) (is_continued : Bool) → IsStartRefusal i shown is_continued r)
-    → (shown : Option Text) (is_continued : Bool) → IsStartRefusal j shown is_continued r
+    → ((shown : Option Text) (is_continued : Bool)
+    → IsStartRefusal AnyMode AnyRunFile i shown is_continued r)
+    → (shown : Option Text) (is_continued : Bool)
+    → IsStartRefusal AnyMode AnyRunFile j shown is_continued r
 start_refusal i j same r is shown is_continued =
-    subst (λ k. IsStartRefusal k shown is_continued r) same (is shown is_continued)
+    subst (λ k. IsStartRefusal AnyMode AnyRunFile k shown is_continued r) same
+    (is shown is_continued)
+
+-- the log was only looked at once more
+pub still_started : (gave : Option Text → Type 0) (known : History) (i : Identity)
+    (key : Option Text) (is_continued : Bool) (before after : FileDisk) (unwritten : Option Text)
+    → (file_agrees after → file_agrees before)
+    → (file_agrees after → file_history after ≡ file_history before)
+    → IsStarted gave known i key is_continued before unwritten
+    → IsStarted gave known i key is_continued after unwritten
+still_started gave known i key is_continued before after unwritten kept same started = record {
+  plan = started.plan;
+  planned = record {
+    log = started.planned.log;
+    found = λ agrees. started.planned.found (kept agrees);
+    judged = started.planned.judged;
+    looked = λ agrees. same agrees ∙ started.planned.looked (kept agrees);
+  };
+  is_unwritten = started.is_unwritten;
+}

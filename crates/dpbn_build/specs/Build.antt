@@ -1,12 +1,12 @@
--- What `dpbn build` prints, and what is told where it can't run.
-use Rattle.std.specs.Prelude.{◌≡◌, ◌<◌, ◌⊎◌, ◌==◌, ◌&&◌, ℕ, Option, None, Some, if◌then◌else◌, option_map}
+-- What `dpbn build` prints, and its refusals.
+use Rattle.std.specs.Prelude.{◌≡◌, ◌<◌, ◌⊎◌, ◌==◌, ◌&&◌, ℕ, Bool, false, Option, None, Some, if◌then◌else◌, option_map}
 use Rattle.dpbn_build.specs.Turns.{HaveTurned}
 pub use Rattle.dpbn_node.specs.Node.{IsNodeText, RefusesNode}
 pub use Rattle.dpbn_node.specs.Runs.{AreGood, letters_of}
 use Rattle.dpbn_node.specs.Given.{RefusesWeights}
-use Rattle.dpbn_node.specs.Runs.{HasBegun, HasFlushed, IsOfNode, IsRunOf, RefusesPlace, RefusesStart, RunOf, Running, port_vouches}
-use Rattle.dpbn_node.specs.declared.starting.Begun.{Begun}
-use Rattle.dpbn_node.specs.Starts.{owner}
+use Rattle.dpbn_node.specs.Runs.{HasFlushed, IsOfNode, IsRunOf, RefusesPlace, RefusesStart, RunOf, Running, port_vouches}
+use Rattle.dpbn_node.specs.Keys.{AnyKeyFile}
+use Rattle.dpbn_node.specs.Starts.{AnyMode, AnyRunFile}
 use Rattle.dpbn_cli.specs.declared.Peers.{Peers}
 use Rattle.dpbn_cli.specs.declared.Run.{Run}
 use Rattle.dpbn_cli.specs.declared.Site.{Site}
@@ -15,8 +15,10 @@ use Rattle.engine.specs.declared.Counts.{Counts}
 use Rattle.faults.specs.Bytes.{Text}
 use Rattle.program_io.specs.Listings.{RefusesListingFile}
 use Rattle.program_io.specs.NodeLine.{node_line}
+use Rattle.program_io.specs.Refusals.{IsSystemRefusal}
 use Rattle.program_io.specs.declared.refusal.Refusal.{Refusal}
 use Rattle.run_file.specs.Found.{IsFound}
+use Rattle.run_file.specs.Looking.{empty_past}
 use Rattle.run_file.specs.declared.judging.LogFound.TheVariants.{Blank, Fresh}
 use Rattle.stable_record.specs.History.{seen}
 use Rattle.stable_record.specs.RealFile.{file_agrees, file_history}
@@ -26,8 +28,8 @@ use Rattle.udp.specs.Calls.{DoesOverUdp}
 
 -- ---- what is printed
 
--- Some turns led from one state of the node to another, at its end; and the port then handed the
--- system all that waited to leave.
+-- Some turns led from one state of the node to another, in which it ends; and then the port handed
+-- the system all datagrams that were queued to be sent.
 pub record HasBuilt (rest : Option ℕ) (old new : Running) : Type 0 where
   pub last : Running
   pub turned : HaveTurned file_agrees file_history (λ disk. disk.failures) (λ port. None)
@@ -35,37 +37,39 @@ pub record HasBuilt (rest : Option ℕ) (old new : Running) : Type 0 where
       (λ port hurry. record port { hurry = hurry }) rest old last
   pub flushed : HasFlushed last new
 
--- the status: 0 where the node is up, and no package is queued and none waits; else 3
+-- the status: 0 if the node is up, no package is queued, and none waits; else 3
 abbrev pub status_of : Option Counts → ℕ
 status_of None = 3
 status_of (Some c) = if c.q == 0 && c.t == 0 then 0 else 3
 
--- The line says what the node shows, and the status whether that is all that can be held.
+-- The line shows the node's counts, and the status says whether all that can be held is held.
 abbrev pub IsLineWith : ℕ → Option State → Text → ℕ → Type 0
 IsLineWith me None line status = (line ≡ node_line me None) × (status ≡ status_of None)
 IsLineWith me (Some s) line status =
     (c : Counts) × AreCounts s c × (line ≡ node_line me (Some c)) × (status ≡ status_of (Some c))
 
--- So they say it of the node behind its turns.
+-- They are the line and the status of the node after its turns.
 pub record IsLineAfter (rest : Option ℕ) (before : Running) (me : ℕ) (line : Text)
     (status : ℕ) : Type 0 where
   pub after : Running
   pub built : HasBuilt rest before after
   pub is_line : IsLineWith me (letters_of after.node.node) line status
 
--- the run that the words tell
+-- the run that the words name
 abbrev pub IsTold : Site → Peers → Run → RunOf → Type 0
 IsTold site peers run of =
-    IsRunOf site.is_single site.members (option_map (λ t. t.now) site.weights) peers run of
+    IsRunOf AnyKeyFile site.is_single site.members (option_map (λ t. t.now) site.weights) peers run
+    of
 
--- The text is the line of the member's node of the run that the words tell, behind turns in which
--- it had built what it claimed.
+-- The text is the line of the member's node, in the run that the words name, after turns in which
+-- its claims were built.
 pub record IsBuildText (site : Site) (me : ℕ) (peers : Peers) (run : Run) (text : Text)
     (status : ℕ) : Type 0 where
   pub of : RunOf
   pub is_of : IsTold site peers run of
   pub member : me < site.members
-  pub built : IsOfNode of me (λ before. IsLineAfter site.rest before me text status)
+  pub built : IsOfNode AnyRunFile empty_past.calls of me
+      (λ before. IsLineAfter site.rest before me text status)
 
 -- ---- refusals
 
@@ -75,25 +79,30 @@ abbrev pub LacksNotes : Identity → FileDisk → Type 0
 LacksNotes i log = file_agrees log
     → IsFound i (seen (file_history log)) Blank ⊎ IsFound i (seen (file_history log)) Fresh
 
--- the work folder has files of another run
+-- the work folder has files of another run, and the node's log has no notes
 abbrev pub work_refusal : Refusal
 work_refusal = record { number = 1209; place = None }
 
--- So it is told where the log on which a start in the run is made has no notes.
-abbrev pub RefusesWork : RunOf → ℕ → Refusal → Type 0
-RefusesWork of me r =
-    (begun : Begun) × HasBegun of me begun
-    × LacksNotes (owner of.tree of.weights me) begun.start.disk × (r ≡ work_refusal)
+-- That is the refusal if others than its owner may write in the work folder, or in one of its three
+-- subfolders.
+abbrev pub shared_refusal : Refusal
+shared_refusal = record { number = 1210; place = None }
 
--- what is told of the start in the run, and of the work folder there
+-- the refusals of the work folder, by whether the node's log has notes
+abbrev pub RefusesWork : Bool → Refusal → Type 0
+RefusesWork has_notes r =
+    (IsSystemRefusal r ⊎ (r ≡ shared_refusal)) ⊎ ((has_notes ≡ false) × (r ≡ work_refusal))
+
+-- the refusals of the start in the run, and of the work folder
 abbrev pub RefusesBuildOn : RunOf → ℕ → Refusal → Type 0
-RefusesBuildOn of me r = RefusesStart me of r ⊎ RefusesWork of me r
+RefusesBuildOn of me r =
+    RefusesStart AnyMode AnyRunFile me of r ⊎ ((r ≡ work_refusal) ⊎ (r ≡ shared_refusal))
 
--- what is told before the first turn: of the listing, of the weights, of the key's file and the
--- hosts, or of the start in the run that the words tell and of the work folder there
+-- the refusals before the first turn: of the listing, of the weights, of the key's file and the
+-- hosts, and of the start and the work folder in the run that the words name
 abbrev pub RefusesBuild : Site → ℕ → Peers → Run → Refusal → Type 0
 RefusesBuild site me peers run r =
     RefusesListingFile site.is_single r
     ⊎ (RefusesWeights r
-    ⊎ (RefusesPlace site.members peers run r
+    ⊎ (RefusesPlace AnyKeyFile site.members peers run r
     ⊎ ((of : RunOf) × IsTold site peers run of × RefusesBuildOn of me r)))

@@ -1,5 +1,5 @@
--- Turns of a node that has built what it claims, one after the other.
-use Rattle.std.specs.Prelude.{◌≡◌, ◌≢◌, ◌<◌, ◌⊎◌, ℕ, true, List, [], ◌∷◌, Option, None, length}
+-- Turns of a node whose claims are built while it runs.
+use Rattle.std.specs.Prelude.{◌≡◌, ◌≢◌, ◌⊎◌, ℕ, true, List, [], ◌∷◌, Option, None}
 use Rattle.dpbn_node.specs.Runs.{Outcome, SoFar, SoloState}
 use Rattle.dpbn_node.specs.Runs.{IsTurn as IsTurnOf}
 use Rattle.faults.specs.Bytes.{Text}
@@ -12,19 +12,19 @@ use Rattle.protocol.specs.Step.{job_of_claim}
 use Rattle.stable_record.specs.History.{History}
 use Rattle.udp.specs.declared.patience.Hurry.{Hurry}
 
--- A turn: how long the port was told to wait, what was made for the job that waits, if anything was
--- yet, what the node was wished to do, and what the turn answered.
+-- A turn: how long the port waits, the result for the node's job, if there is one yet, the node's
+-- wish, and the turn's outcome.
 pub record Turn : Type 0 where
   pub hurry : Hurry
   pub made : Option Given
   pub wish : Option Wish
   pub answer : Outcome
 
--- the node, once its port is told how long to wait
+-- the node with this wait of its port
 abbrev pub told_to : {D P : Type 0} → (P → Hurry → P) → Hurry → SoloState D P → SoloState D P
 told_to hurried hurry s = record s { port = hurried s.port hurry }
 
--- Such a turn, whatever was made and wished.
+-- The turn led from the old state to the new one.
 abbrev pub IsTurn : {D P : Type 0} → (D → Type 0) → (D → History) → (D → ℕ)
     → (P → Option (List Arrived)) → (P → Option (List Parcel)) → (P → Call → P → Type 0)
     → (P → Text → Type 0) → (P → Hurry → P) → SoloState D P → Turn → SoloState D P → Type 0
@@ -32,8 +32,8 @@ IsTurn is_kept history failures_of given offered does vouches hurried old turn n
     IsTurnOf is_kept history failures_of given offered does vouches (SoFar turn.made turn.wish)
     (told_to hurried turn.hurry old) new turn.answer
 
--- Such turns lead from one state to the other: each is one of the state that the one before left,
--- and nothing else happened in between.
+-- The turns led from one state to the other: each began in the state that the one before left, and
+-- nothing else happened in between.
 abbrev pub TurnsLead : {D P : Type 0} → (D → Type 0) → (D → History) → (D → ℕ)
     → (P → Option (List Arrived)) → (P → Option (List Parcel)) → (P → Call → P → Type 0)
     → (P → Text → Type 0) → (P → Hurry → P) → SoloState D P → List Turn → SoloState D P → Type 0
@@ -43,18 +43,15 @@ TurnsLead is_kept history failures_of given offered does vouches hurried old (tu
     × IsTurn is_kept history failures_of given offered does vouches hurried old turn between
     × TurnsLead is_kept history failures_of given offered does vouches hurried between more new
 
--- How the turns end: the node is down; or it is one that ends when it comes to rest, and nothing is
--- built for it.
+-- How the turns end: the node is down; or it ends at rest, and its claim waits for no build.
 abbrev pub IsAtEnd : Option ℕ → NodeState → Type 0
 IsAtEnd rest n = (n.stopped ≡ true) ⊎ ((rest ≢ None) × (job_of_claim n.member ≡ None))
 
--- Some turns, at least one, led from one state to the other, and then the node is at its end; or
--- there were as many as can be counted, 2^64 - 1.
+-- Turns led from one state to the other, and then the node is at its end.
 pub record HaveTurned {D P : Type 0} (is_kept : D → Type 0) (history : D → History)
     (failures_of : D → ℕ) (given : P → Option (List Arrived)) (offered : P → Option (List Parcel))
     (does : P → Call → P → Type 0) (vouches : P → Text → Type 0) (hurried : P → Hurry → P)
     (rest : Option ℕ) (old new : SoloState D P) : Type 0 where
   pub turns : List Turn
-  pub some : 0 < length turns
   pub led : TurnsLead is_kept history failures_of given offered does vouches hurried old turns new
-  pub ends : IsAtEnd rest new.node.node ⊎ (length turns ≡ 18446744073709551615)
+  pub ends : IsAtEnd rest new.node.node

@@ -1,5 +1,5 @@
-//! The answer of `dpbn build` to its words.
-ghost use Rattle.std.specs.Prelude.{◌≡◌, ◌<◌, ◌≤◌, ◌⊎◌, IfErr, IfOk, false, length};
+//! The command `dpbn build`.
+ghost use Rattle.std.specs.Prelude.{◌≡◌, ◌<◌, ◌≤◌, IfErr, IfOk, false, length};
 ghost use Rattle.dpbn_build.specs.Build.{
   IsBuildText,
   IsLineAfter,
@@ -7,29 +7,32 @@ ghost use Rattle.dpbn_build.specs.Build.{
   LacksNotes,
   RefusesBuild,
   RefusesBuildOn,
+  RefusesWork,
   status_of,
-  work_refusal,
 };
 ghost use Rattle.dpbn_node.specs.Runs.{AreGood, IsOfNode, IsOfNodeOn, RefusesOnLog, letters_of, run_at};
-ghost use Rattle.dpbn_node.specs.Starts.{IsStartRefusal};
-ghost use Rattle.program_io.specs.Refusals.{IsSystemRefusal};
+ghost use Rattle.dpbn_node.specs.Starts.{AnyMode, AnyRunFile, IsStartRefusal};
+ghost use Rattle.run_file.specs.Looking.{empty_past};
+ghost use Rattle.stable_record.specs.RealFile.{file_agrees, file_history};
 
 use crate::ending::Rest;
+use crate::host::Builder;
 use crate::office::Office;
 use crate::pacing::Pacing;
 use crate::turning::run;
+use crate::work_folder::test_work;
 use ballots::Weights;
 use datagram_ports::Port;
 use dpbn_cli::{Peers, Run, Site};
 use dpbn_node::{
-    Begun, Place, Solo, Telling, begin, identity_of, open, place_of_words, weights_of_words,
-    write_unwritten,
+    Begun, Place, Solo, SystemKeys, Telling, begin, identity_of, place_of_words, solo_on_log,
+    weights_of_words,
 };
 use engine::Counts;
 use job_folder::Folder;
 use listing::Tree;
 use program_io::{Answer, Refusal, node_text, tree_of_file};
-use run_file::{LogFound, Start, StartFault, found_in};
+use run_file::{LogFound, Start, StartFault, SupposedEmpty, SystemFolder, found_in};
 use scheduler::{Desk, Pace};
 use stable_record::{Disk, FileDisk, Identity};
 use std::alloc::{AllocError, Global};
@@ -37,21 +40,21 @@ use std::io::Write;
 use std::time::{Duration, Instant};
 use udp::UdpPort;
 
-/// For how many seconds a unit is left to another member, where it isn't told.
+/// For how many seconds a unit is left to another member by default.
 const TAKEOVER: u32 = 600;
 
-/// Runs the member's node until it is down or comes to rest, and answers the line on it; with the
-/// status 0 where all that isn't ignored is held, and else 3. What a turn or the work folder
-/// refuses is told on `err`, and the node goes on.
+/// Runs the member's node until it is down or at rest, and returns its line. The status is 0 if all
+/// that isn't ignored is held, and 3 otherwise. Faults of turns and of the work folder are printed
+/// on `err`, and the node goes on.
 ///
-/// All that can be wrong is looked at before the first turn, in this order: the listing, the
-/// weights, the key's file, the hosts, the member, the log's file and the run file beside it, the
-/// socket, the work folder, and the clock; all these before a byte of the log is written. Then the
-/// log itself, and whether the run file can be written.
+/// Everything is checked before the first turn, in this order: the listing, the weights, the key's
+/// file, the hosts, the member, the log's file and its run file, the socket, the work
+/// folder, and the clock. No byte of the log is written before all of these passed. Then come the
+/// log itself and the writing of the run file.
 ///
 /// # Errors
 ///
-/// The first of these that is wrong.
+/// The first check that failed.
 pub fn build_of_words<E: Write>(
     rt: &HostRuntime,
     site: &Site<'_>,
@@ -69,11 +72,12 @@ pub fn build_of_words<E: Write>(
 {
     let tree = tree_of_file(rt, site.listing, site.is_single)?;
     let weights = weights_of_words(rt.alloc(), site.members, site.weights)?;
-    let place = place_of_words(rt, site.members, peers, patience, run)?;
+    let keys = SystemKeys::of(rt);
+    let place = place_of_words(rt.alloc(), &keys, site.members, peers, patience, run)?;
     build_on(rt, &tree, &weights, site, me, place, err)
 }
 
-/// The answer of the member's node, which begins at this place.
+/// Runs the member's node, which starts at this place.
 fn build_on<E: Write>(
     rt: &HostRuntime,
     tree: &Tree,
@@ -85,12 +89,13 @@ fn build_on<E: Write>(
 ) -> Result<Answer, Refusal>
     requires { length place.addresses.items ≡ length weights.now }
     ensures built { IfOk result (λ answer. (me < length weights.now)
-        × IsOfNode (run_at tree.now weights.now place) me
+        × IsOfNode AnyRunFile empty_past.calls (run_at tree.now weights.now place) me
         (λ before. IsLineAfter site.now.rest before me answer.text.items answer.status)) }
     ensures refused { IfErr result (RefusesBuildOn (run_at tree.now weights.now place) me) }
 {
     let telling = Telling::new(rt.alloc(), me, None, place.sealing.is_watched());
-    let begun = begin(rt, tree, weights, site.dir, me, place)?;
+    let folder: SystemFolder<'_, SupposedEmpty> = SystemFolder::at(rt, site.dir);
+    let begun = begin(rt, tree, weights, &folder, me, place)?;
     let Begun { start, port } = begun;
     let Start { disk, unwritten } = start;
     let mut disk = disk;
@@ -100,16 +105,18 @@ fn build_on<E: Write>(
     build_on_log(rt, start, port, office, tree, weights, site, me, err)
 }
 
-/// Whether the owner's log has notes, as far as its length tells: one that is longer than a log
-/// without any counts as one with some. Nothing of it is written.
+/// Whether the owner's log has notes, judged by its length: a log that is longer than an empty one
+/// has some. The log is only read and measured.
 ///
 /// # Errors
 ///
-/// That the log can't be read.
-fn has_notes(disk: &mut FileDisk, owner: &Identity) -> Result<bool, Refusal>
+/// The log can't be read.
+pub fn has_notes(disk: &mut FileDisk, owner: &Identity) -> Result<bool, Refusal>
     ensures lacks { IfOk result (λ has. has ≡ false → LacksNotes owner.now disk.new) }
+    ensures kept { file_agrees disk.new → file_agrees disk.old }
+    ensures same { file_agrees disk.new → file_history disk.new ≡ file_history disk.old }
     ensures refused { IfErr result (λ r. (shown : _) (is_continued : _)
-        → IsStartRefusal owner.now shown is_continued r) }
+        → IsStartRefusal AnyMode AnyRunFile owner.now shown is_continued r) }
 {
     match found_in(disk, owner) {
         Ok(LogFound::Noted) => Ok(true),
@@ -120,12 +127,12 @@ fn has_notes(disk: &mut FileDisk, owner: &Identity) -> Result<bool, Refusal>
     }
 }
 
-/// What goes on beside the turns of the node, which has the work folder to itself.
+/// The work between the node's turns. The node has the work folder to itself.
 ///
 /// # Errors
 ///
-/// What the system refused of the work folder or the clock; that the folder has files, where the
-/// node's log has no notes.
+/// The system refused to open the work folder or to read the clock; the folder has files although
+/// the node's log has no notes; or others may write in it.
 fn office_of<'f>(
     rt: &HostRuntime,
     site: &Site<'f>,
@@ -133,18 +140,18 @@ fn office_of<'f>(
     has_notes: bool,
     telling: Telling,
 ) -> Result<Office<'f>, Refusal>
-    ensures { IfErr result
-        (λ r. IsSystemRefusal r ⊎ ((has_notes ≡ false) × (r ≡ work_refusal))) }
+    ensures { IfErr result (RefusesWork has_notes) }
 {
     let folder = folder_of(rt, site.work, me, has_notes)?;
     let now = Instant::now(rt)?;
     let takeover = site.takeover.unwrap_or(TAKEOVER);
+    let pace = pace_of(site.jobs, takeover);
     Ok(Office {
-        desk: Desk::new(rt.alloc(), folder, pace_of(site.jobs, takeover), now),
+        desk: Desk::new(rt.alloc(), folder, pace, has_notes, now),
         pacing: Pacing::new(now),
+        builder: Builder::new(folder, now),
         rest: Rest::new(now, takeover, site.members),
         telling,
-        is_lone: site.members == 1,
         progress: site.progress,
         told_at: now,
         looked_at: now,
@@ -152,24 +159,26 @@ fn office_of<'f>(
     })
 }
 
-/// The work folder.
+/// Opens the work folder.
 fn folder_of<'f>(
     rt: &HostRuntime,
     path: &'f str,
     me: u8,
     has_notes: bool,
 ) -> Result<Folder<'f>, Refusal>
-    ensures { IfErr result
-        (λ r. IsSystemRefusal r ⊎ ((has_notes ≡ false) × (r ≡ work_refusal))) }
+    ensures { IfErr result (RefusesWork has_notes) }
 {
     match Folder::open(rt, path, me, has_notes) {
-        Ok(folder) => Ok(folder),
+        Ok(folder) => {
+            test_work(rt, path)?;
+            Ok(folder)
+        }
         Err(fault) => Err(Refusal::of(&fault)),
     }
 }
 
-/// How long is waited, where so many units are built at a time, one if it isn't told, and another
-/// member's unit is left to it for so many seconds.
+/// The waits of a node that builds `jobs` units at a time, by default one, and leaves the units of
+/// other members to them for `takeover` seconds.
 fn pace_of(jobs: Option<u8>, takeover: u32) -> Pace {
     Pace {
         jobs: u32::from(jobs.unwrap_or(1)),
@@ -179,7 +188,7 @@ fn pace_of(jobs: Option<u8>, takeover: u32) -> Pace {
     }
 }
 
-/// The answer of the member's node on the log on which it starts.
+/// Runs the member's node on the log on which it starts.
 fn build_on_log<E: Write>(
     rt: &HostRuntime,
     start: Start,
@@ -197,17 +206,14 @@ fn build_on_log<E: Write>(
         (λ before. IsLineAfter site.now.rest before me answer.text.items answer.status)) }
     ensures refused { IfErr result RefusesOnLog }
 {
-    let Start { disk, unwritten } = start;
-    let node = open(rt.alloc(), disk, tree, weights, me)?;
-    write_unwritten(rt, site.dir, me, unwritten)?;
-    let solo = Solo::new(node, port);
+    let solo = solo_on_log(rt, start, port, tree, weights, site.dir, me)?;
     match answer_after(rt, solo, office, site.rest, me, err) {
         Ok(answer) => Ok(answer),
         Err(_) => Err(Refusal::memory()),
     }
 }
 
-/// The answer of the node, after its turns.
+/// Runs the node's turns, and returns its answer.
 fn answer_after<E: Write>(
     rt: &HostRuntime,
     solo: Solo<'_, FileDisk, UdpPort<'_, HostRuntime>>,
@@ -221,11 +227,15 @@ fn answer_after<E: Write>(
 {
     let mut solo = solo;
     let mut office = office;
-    run(rt, &mut solo, &mut office, rest, err);
-    answer_of(rt.alloc(), &solo, me)
+    let is_ended = run(rt, &mut solo, &mut office, rest, err);
+    if is_ended {
+        answer_of(rt.alloc(), &solo, me)
+    } else {
+        Err(AllocError)
+    }
 }
 
-/// The answer of the node as it is.
+/// The node's line and status at the moment.
 fn answer_of<D: Disk, P: Port>(
     alloc: Global,
     solo: &Solo<'_, D, P>,
@@ -242,7 +252,7 @@ fn answer_of<D: Disk, P: Port>(
     })
 }
 
-/// The status for what is shown: 0 where the node is up, and no package is queued and none waits.
+/// The status for these counts: 0 if the node is up, no package is queued, and none waits.
 fn status_of(counts: Option<Counts>) -> u8
     ensures { result ≡ status_of counts }
 {

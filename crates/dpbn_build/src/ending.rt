@@ -1,4 +1,4 @@
-//! When there are no more turns.
+//! When the node ends.
 ghost use Rattle.std.specs.Prelude.{◌≡◌, is_some, true};
 ghost use Rattle.dpbn_build.specs.Turns.{IsAtEnd};
 ghost use Rattle.protocol.specs.Step.{job_of_claim};
@@ -10,21 +10,21 @@ use stable_record::Disk;
 use std::io::Write;
 use std::time::{Duration, Instant};
 
-/// How many seconds a unit is left to other members, beyond those for which it is told, before it
-/// is claimed at the latest: the slots of nine members, and a question with its slot.
+/// By how many seconds more than `--takeover` a unit may be left to other members before it is
+/// claimed: the slots of nine members, and a question with its slot.
 const SLOTS: u64 = 5;
 
-/// Since when nothing comes about.
+/// For how long nothing has happened.
 #[derive(Clone, Copy)]
 pub(crate) struct Rest {
-    /// Since when nothing was noted, and nobody who asked learned anything.
+    /// When something was last noted, or somebody who asked learned something.
     since: Instant,
-    /// How long the log was then, in bytes.
+    /// The log's length at that time, in bytes.
     log_len: u64,
-    /// Since when nothing came to be held, was built or failed here, and nobody who asked learned
-    /// anything. Claims that are taken over and over are noted, too.
+    /// When something was last held, built or failed here, or somebody who asked learned something.
+    /// This ignores notes, because claims that are taken over again and again are noted, too.
     moved_at: Instant,
-    /// How many packages were held then.
+    /// The number of held packages at that time.
     held: u64,
     /// After how many seconds another member's unit is taken over.
     takeover: u32,
@@ -33,7 +33,7 @@ pub(crate) struct Rest {
 }
 
 impl Rest {
-    /// So it is from now on.
+    /// Starts now.
     pub fn new(now: Instant, takeover: u32, members: u8) -> Rest {
         Rest {
             since: now,
@@ -45,8 +45,8 @@ impl Rest {
         }
     }
 
-    /// What the last turn did: how long it left the log, how many packages are held, and whether it
-    /// answered a question, or told the node what became of its job.
+    /// Notes what the last turn did: the log's length, the number of held packages, and whether the
+    /// turn answered a question or gave the node the result of its job.
     pub fn note(&mut self, now: Instant, log_len: u64, held: u64, has_moved: bool) {
         let has_moved = has_moved || held != self.held;
         if has_moved {
@@ -59,19 +59,19 @@ impl Rest {
         }
     }
 
-    /// Something is built here, whatever else comes about: what is waited for begins behind that.
+    /// Starts again, because something is being built here.
     fn begin_anew(&mut self, now: Instant) {
         self.since = now;
         self.moved_at = now;
     }
 
-    /// Whether nothing was noted and told for so many seconds.
+    /// Whether nothing was noted for this number of seconds.
     fn is_over(&self, now: Instant, seconds: u32) -> bool {
         now.duration_since(self.since) >= Duration::from_secs(u64::from(seconds))
     }
 
-    /// Whether nothing moved for so long that each member in turn may have taken a unit over, and
-    /// rested so many seconds behind that.
+    /// Whether nothing moved for so long that each member in turn could have taken a unit over and
+    /// then rested for this number of seconds.
     fn is_long_over(&self, now: Instant, seconds: u32) -> bool {
         let rests = u64::from(seconds).saturating_mul(u64::from(self.members));
         let left = u64::from(self.takeover).saturating_add(SLOTS);
@@ -79,8 +79,7 @@ impl Rest {
     }
 }
 
-/// Whether no more turn is to be taken: the node is down; or it came to rest, where it is told
-/// after how many seconds it ends then.
+/// Whether the node ends: it is down, or it is at rest and `rest` says that it ends then.
 pub(crate) fn is_at_end<D: Disk, P: Port, E: Write>(
     rt: &HostRuntime,
     solo: &Solo<'_, D, P>,
@@ -103,7 +102,7 @@ pub(crate) fn is_at_end<D: Disk, P: Port, E: Write>(
     !waits_for_its_build(solo) && is_at_rest(rt, solo, office, seconds)
 }
 
-/// Whether the node's open claim waits for its build.
+/// Whether the node's open claim waits for a build.
 fn waits_for_its_build<D: Disk, P: Port>(solo: &Solo<'_, D, P>) -> bool
     ensures { result ≡ is_some (job_of_claim solo.now.node.node.member) }
 {
@@ -113,8 +112,8 @@ fn waits_for_its_build<D: Disk, P: Port>(solo: &Solo<'_, D, P>) -> bool
     }
 }
 
-/// Whether nothing is built here; and nothing was built, noted or told for so many seconds, and
-/// nothing is left that the node could do, or nothing moved for so long that nothing will.
+/// Whether nothing is being built here, and either nothing happened for this number of seconds and
+/// the node has nothing left to do, or nothing moved for so long that nothing will.
 fn is_at_rest<D: Disk, P: Port>(
     rt: &HostRuntime,
     solo: &Solo<'_, D, P>,
@@ -130,8 +129,9 @@ fn is_at_rest<D: Disk, P: Port>(
     is_over || office.rest.is_long_over(now, seconds)
 }
 
-/// Whether a claim is open that nobody answers, or each queued unit failed here, and no job is out:
-/// one that has its answer is still to be claimed anew. (A claim that gave way is as good as none.)
+/// Whether the node has nothing left to do: its open claim gets no answers, or no job is out and
+/// each queued unit failed here. A job with an answer must still be claimed anew. A claim that gave
+/// way counts as none.
 fn is_done<D: Disk, P: Port>(solo: &Solo<'_, D, P>, office: &Office<'_>) -> bool {
     let node = solo.node();
     if node.open_claim().is_some() && !solo.is_in_the_way() {

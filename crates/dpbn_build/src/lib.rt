@@ -1,12 +1,14 @@
-//! What `dpbn build` does: one member's node runs on its log, hears its peers over UDP, and has
-//! what it claims built by whoever looks into the work folder. It passes on what `dpbn node` does.
+//! The command `dpbn build`: one member's node runs on its log and talks to its peers over UDP. A
+//! builder that watches the work folder builds what it claims. `dpbn node` is passed on.
 #![tactic(auto)]
 
 mod answering;
 mod ending;
+mod host;
 mod office;
 mod pacing;
 mod turning;
+mod work_folder;
 
-pub use crate::answering::build_of_words;
+pub use crate::answering::{build_of_words, has_notes};
 pub use dpbn_node::{MemPort, Port, Solo, UdpPort, node_of_words};

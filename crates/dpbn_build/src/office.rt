@@ -1,7 +1,7 @@
-//! What goes on beside a node's turns: what is built for it, what it is wished to do, and what is
-//! told of it.
+//! The work between a node's turns: its builds, its wishes, and what is printed about it.
 
 use crate::ending::Rest;
+use crate::host::Builder;
 use crate::pacing::Pacing;
 use datagram_ports::Port;
 use dpbn_node::{Act, Solo, Telling, TurnFault, front_of_requests};
@@ -17,58 +17,57 @@ use std::io::Write;
 use std::time::{Duration, Instant};
 use udp::{Hurry, Tallies};
 
-/// How many bytes a log's file may have.
+/// The most bytes of a log's file.
 const MOST_BYTES: u64 = 2_147_483_648;
 
-/// Above how many bytes it is told that the log is nearly full.
+/// Above this many bytes the log is nearly full.
 const NEARLY_FULL: u64 = MOST_BYTES / 10 * 9;
 
-/// How often it is looked at what ends or may be tried again, in milliseconds.
+/// How often to check for the end and for builds to retry, in milliseconds.
 const LOOK: u64 = 1_000;
 
-/// What is handed in to a turn.
+/// The input of a turn.
 #[derive(Drop)]
 pub(crate) struct Handed {
-    /// What is made for the node's job, if anything is yet.
+    /// The result for the node's job, if there is one yet.
     pub made: Option<Packages>,
-    /// What the node is wished to do.
+    /// The node's wish.
     pub wish: Option<Wish>,
     /// How long the turn waits for a datagram.
     pub hurry: Hurry,
 }
 
-/// What a turn answered.
+/// The outcome of a turn.
 #[derive(Drop)]
 pub(crate) struct Turned {
     pub answer: Result<Option<Act>, TurnFault>,
-    /// Whether the node was wished something.
+    /// Whether the node had a wish.
     pub is_wished: bool,
     /// Whether datagrams were sent.
     pub has_sent: bool,
 }
 
-/// What goes on beside a node's turns.
+/// The work between a node's turns.
 #[derive(Drop)]
 pub(crate) struct Office<'f> {
     pub desk: Desk<'f>,
     pub pacing: Pacing,
+    pub builder: Builder<'f>,
     pub rest: Rest,
     pub telling: Telling,
-    /// Whether there are no other members.
-    pub is_lone: bool,
-    /// After each how many seconds the node's line is told, if it is.
+    /// Every how many seconds the node's line is printed, if at all.
     pub progress: Option<u32>,
-    /// When it was told last.
+    /// When it was printed last.
     pub told_at: Instant,
-    /// When it was looked last at what ends or may be tried again.
+    /// When the last check for the end and for retries was.
     pub looked_at: Instant,
-    /// Whether it was told that the log is nearly full.
+    /// Whether it was printed that the log is nearly full.
     pub is_full_told: bool,
 }
 
 impl<'f> Office<'f> {
-    /// What is handed in to the next turn. What the work folder refuses is told, and then it is
-    /// nothing for a while.
+    /// The input of the next turn. A fault of the work folder is printed, and then there is no
+    /// input for a while.
     pub fn hand_in<D: Disk, P: Port, E: Write>(
         &mut self,
         rt: &HostRuntime,
@@ -87,8 +86,8 @@ impl<'f> Office<'f> {
         Handed { made, wish, hurry }
     }
 
-    /// What is made for the node's job, and what it is wished to do. What is wished waits for a
-    /// pause in what comes, but not for long.
+    /// The result for the node's job, and the node's wish. A wish waits for a pause between
+    /// datagrams, but not for long.
     fn looked<D: Disk, P: Port, E: Write>(
         &mut self,
         rt: &HostRuntime,
@@ -100,18 +99,21 @@ impl<'f> Office<'f> {
         }
         let now = self.pacing.now;
         let member = solo.node().member();
+        if self.pacing.is_held_up() && !self.desk.is_hit(member) {
+            return Ok((None, None));
+        }
         self.desk.tick(member, now)?;
+        self.look_at_host(rt, member, err)?;
         let made = self.made(rt, member, err)?;
-        let is_held_up = self.pacing.is_busy() && !self.pacing.is_late();
-        if made.is_some() || is_held_up && !self.desk.is_hit(member) {
+        if made.is_some() {
             return Ok((made, None));
         }
         let wish = self.desk.wish(rt, member, solo.is_in_the_way(), now)?;
         Ok((made, wish))
     }
 
-    /// What is made for the member's job, if anything is. What was handed in and makes no build is
-    /// told; it is as good as nothing that was made.
+    /// The result for the member's job, if there is one. A malformed result is printed, and counts
+    /// as a failed build.
     fn made<E: Write>(
         &mut self,
         rt: &HostRuntime,
@@ -129,31 +131,41 @@ impl<'f> Office<'f> {
         }
     }
 
-    /// How long the next turn waits where nothing comes: not at all where what is wished has
-    /// waited, or a question was just answered; and for a second where nothing is left to do but to
-    /// wait.
+    /// How long the next turn waits if nothing comes. The first of these that applies:
+    ///
+    /// - as long as the port's patience says, before it claims although a greater claim is in the
+    ///   way: nodes that claim the same unit must not wait equally long;
+    /// - not at all, if the node has a wish;
+    /// - if the node offers its claim again: a second if it did so lately, else as long as the
+    ///   port's patience says;
+    /// - not at all, if the last turn took a datagram;
+    /// - else 20 ms, so that an answer in the work folder is seen soon.
     fn hurry<D: Disk, P: Port>(&self, solo: &Solo<'_, D, P>, is_wished: bool) -> Hurry {
-        let is_hit = self.desk.is_hit(solo.node().member());
-        if self.pacing.is_late() || is_hit && is_wished {
+        if is_wished && solo.is_in_the_way() && !self.pacing.is_late() {
+            Hurry::Patient
+        } else if is_wished {
             Hurry::Brief
-        } else if !is_wished && self.just_waits(solo) {
+        } else if !offers_again(solo) {
+            self.hurry_idle()
+        } else if self.pacing.is_too_soon() {
             Hurry::Slow
+        } else if self.pacing.is_late() {
+            Hurry::Brief
         } else {
             Hurry::Patient
         }
     }
 
-    /// Whether all that is left to do is to offer again what was so offered within the last second;
-    /// or, of a lone node, to wait for a build or for the end.
-    fn just_waits<D: Disk, P: Port>(&self, solo: &Solo<'_, D, P>) -> bool {
-        let member = solo.node().member();
-        if self.is_lone {
-            return member.job().is_some() || !self.desk.has_more(member);
+    /// How long the next turn waits if the node has neither a wish nor an offer to repeat.
+    fn hurry_idle(&self) -> Hurry {
+        if self.pacing.is_busy() && !self.pacing.is_paused() {
+            Hurry::Brief
+        } else {
+            Hurry::Steady
         }
-        self.pacing.is_too_soon() && offers_again(solo)
     }
 
-    /// Keeps what follows of a turn, and tells what is to be told of it.
+    /// Updates the state after a turn, and prints what is to be printed about it.
     pub fn keep<D: Disk, P: Port, E: Write>(
         &mut self,
         rt: &HostRuntime,
@@ -161,7 +173,7 @@ impl<'f> Office<'f> {
         turned: Turned,
         err: &mut E,
     ) {
-        // what a turn did, it did at its end, which may be a second behind its beginning
+        // a turn acts at its end, which may be a second after its start
         self.pacing.look(rt);
         let Turned {
             answer,
@@ -173,6 +185,7 @@ impl<'f> Office<'f> {
             Ok(Some(Act::Datagram(bytes))) => {
                 has_moved = has_sent && is_question(bytes.as_slice());
                 self.pacing.took(true);
+                self.keep_act(rt, solo.node().member(), &Act::Datagram(bytes), err);
             }
             Ok(Some(Act::Own(input))) => {
                 self.pacing.took(false);
@@ -192,7 +205,7 @@ impl<'f> Office<'f> {
         self.tell_fill(log_len, err);
     }
 
-    /// Keeps what follows of what the node did of itself, and tells that a build failed.
+    /// Updates the state after a step of the node's own, and prints that a build failed.
     fn keep_own<E: Write>(
         &mut self,
         rt: &HostRuntime,
@@ -205,15 +218,23 @@ impl<'f> Office<'f> {
             let _ = err.write_all(path.as_bytes());
             let _ = err.write_all(b"\n");
         }
-        if let Err(fault) = self
-            .desk
-            .took(rt, member, &Act::Own(input), self.pacing.now)
-        {
+        self.keep_act(rt, member, &Act::Own(input), err);
+    }
+
+    /// Updates the desk after a step of the node.
+    fn keep_act<E: Write>(
+        &mut self,
+        rt: &HostRuntime,
+        member: &Member<'_>,
+        act: &Act,
+        err: &mut E,
+    ) {
+        if let Err(fault) = self.desk.took(rt, member, act, self.pacing.now) {
             self.refuse(&fault, err);
         }
     }
 
-    /// Whether it is time to look at what ends or may be tried again.
+    /// Whether the next check for the end and for retries is due.
     pub fn is_look_due(&mut self) -> bool {
         let is_due = self.pacing.now.duration_since(self.looked_at) >= Duration::from_millis(LOOK);
         if is_due {
@@ -232,13 +253,13 @@ impl<'f> Office<'f> {
         }
     }
 
-    /// Tells what the work folder refused. Nothing is wished for a while.
+    /// Prints a fault of the work folder. The node has no wishes for a while.
     fn refuse<E: Write>(&mut self, fault: &WorkFault, err: &mut E) {
         self.telling.refused(Refusal::of(fault), err);
         self.pacing.pause();
     }
 
-    /// Tells, once, that the log is nearly full.
+    /// Prints, once, that the log is nearly full.
     fn tell_fill<E: Write>(&mut self, log_len: u64, err: &mut E) {
         if log_len > NEARLY_FULL && !self.is_full_told {
             self.is_full_told = true;
@@ -246,7 +267,7 @@ impl<'f> Office<'f> {
         }
     }
 
-    /// Tells the node's line, and then of the members.
+    /// Prints the node's line, and then a line for each other member.
     pub fn tell_line<E: Write>(
         &mut self,
         alloc: Global,
@@ -270,19 +291,19 @@ impl<'f> Office<'f> {
     }
 }
 
-/// Nothing that was made: a job that gets that has failed.
+/// No packages: the result of a build that failed.
 fn no_packages(alloc: Global) -> Packages {
     Packages::new(Vec::new(alloc))
 }
 
-/// Whether a node that has nothing else to do offers again what it offered: a claim is open that
-/// has its build, or gathers promises, and that no greater one stands in the way of.
+/// Whether a node with nothing else to do offers its open claim again: the claim gathers promises
+/// or has its build, and no greater claim is in its way.
 fn offers_again<D: Disk, P: Port>(solo: &Solo<'_, D, P>) -> bool {
     let node = solo.node();
     node.open_claim().is_some() && node.member().job().is_none() && !solo.is_in_the_way()
 }
 
-/// How many packages are held by these counts.
+/// The number of held packages in these counts.
 fn held_of(counts: Option<Counts>) -> u64 {
     match counts {
         Some(counts) => u64::from(counts.i).saturating_add(u64::from(counts.b)),
@@ -290,7 +311,7 @@ fn held_of(counts: Option<Counts>) -> u64 {
     }
 }
 
-/// Whether a datagram asks for what is agreed of a unit.
+/// Whether a datagram asks for a unit's agreed build.
 fn is_question(bytes: &[u8]) -> bool {
     bytes.starts_with(&front_of_requests())
 }

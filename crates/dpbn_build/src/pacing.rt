@@ -1,34 +1,34 @@
-//! When a node is wished something, and how long a turn waits.
+//! When a node has a wish, and how long a turn waits.
 
 use dpbn_node::TurnFault;
 use member::Input;
 use node::NodeFault;
 use std::time::{Duration, Instant};
 
-/// For how long what comes may keep back what is wished, in milliseconds.
+/// For how long datagrams may delay a wish, in milliseconds.
 const LATE: u64 = 100;
 
-/// For how long nothing is wished after a fault, in milliseconds.
+/// For how long there is no wish after a fault, in milliseconds.
 const PAUSE: u64 = 1_000;
 
-/// For how long what was offered again isn't offered once more, in milliseconds.
+/// The least time between two repeated offers, in milliseconds.
 const AGAIN: u64 = 1_000;
 
-/// What the last turns did to what is wished, and to how long the next one waits.
+/// What the last turns mean for the next wish and the next wait.
 #[derive(Clone, Copy)]
 pub(crate) struct Pacing {
-    /// When the turn is.
+    /// The time of the turn.
     pub now: Instant,
     /// Since when each turn took a datagram, if the last one did.
     busy_since: Option<Instant>,
-    /// When something was refused last.
+    /// The time of the last fault.
     refused_at: Option<Instant>,
-    /// When the node last offered again what it had offered to the others.
+    /// When the node last repeated an offer.
     again_at: Option<Instant>,
 }
 
 impl Pacing {
-    /// No turn was taken yet.
+    /// Before the first turn.
     pub fn new(now: Instant) -> Pacing {
         Pacing {
             now,
@@ -38,14 +38,14 @@ impl Pacing {
         }
     }
 
-    /// Reads the clock. Where that can't be read, the time stays.
+    /// Reads the clock. If it can't be read, the time stays.
     pub fn look(&mut self, rt: &HostRuntime) {
         if let Ok(now) = Instant::now(rt) {
             self.now = now;
         }
     }
 
-    /// Whether something was refused so lately that nothing is wished yet.
+    /// Whether there was a fault so recently that there is no wish yet.
     pub fn is_paused(&self) -> bool {
         self.is_less_than(PAUSE, self.refused_at)
     }
@@ -55,17 +55,22 @@ impl Pacing {
         self.busy_since.is_some()
     }
 
-    /// Whether each turn took a datagram for so long that what is wished waits no longer.
+    /// Whether each turn took a datagram for so long that a wish waits no longer.
     pub fn is_late(&self) -> bool {
         self.is_busy() && !self.is_less_than(LATE, self.busy_since)
     }
 
-    /// Whether the node offered something again so lately that it doesn't do so once more yet.
+    /// Whether datagrams delay a wish at the moment.
+    pub fn is_held_up(&self) -> bool {
+        self.is_busy() && !self.is_late()
+    }
+
+    /// Whether the node repeated an offer so recently that it doesn't repeat it yet.
     pub fn is_too_soon(&self) -> bool {
         self.is_less_than(AGAIN, self.again_at)
     }
 
-    /// Whether that was, and fewer milliseconds passed since.
+    /// Whether it happened, less than this number of milliseconds ago.
     fn is_less_than(&self, milliseconds: u64, then: Option<Instant>) -> bool {
         match then {
             Some(then) => self.now.duration_since(then) < Duration::from_millis(milliseconds),
@@ -73,7 +78,7 @@ impl Pacing {
         }
     }
 
-    /// A turn took a datagram, or it didn't.
+    /// Notes whether a turn took a datagram.
     pub fn took(&mut self, came: bool) {
         self.busy_since = match self.busy_since {
             Some(since) if came => Some(since),
@@ -82,8 +87,8 @@ impl Pacing {
         };
     }
 
-    /// The node did this of itself, by a wish or without one. A claim without one goes on with that
-    /// which was open, as a nudge does.
+    /// Notes a step of the node's own, which it took by a wish or without one. A claim without a
+    /// wish continues the open claim, as a nudge does.
     pub fn did(&mut self, input: &Input, is_wished: bool) {
         match input {
             Input::Nudge => self.again_at = Some(self.now),
@@ -94,7 +99,7 @@ impl Pacing {
         }
     }
 
-    /// A turn was refused. A datagram that means nothing here keeps back no more than others do.
+    /// Notes a fault of a turn. A datagram that means nothing here delays no more than others do.
     pub fn refused(&mut self, fault: &TurnFault) {
         let came = is_foreign(fault);
         self.took(came);
@@ -103,14 +108,14 @@ impl Pacing {
         }
     }
 
-    /// Something was refused: nothing is wished for a while, nor offered again.
+    /// Notes a fault: for a while there is no wish, and no offer is repeated.
     pub fn pause(&mut self) {
         self.refused_at = Some(self.now);
         self.again_at = Some(self.now);
     }
 }
 
-/// Whether the turn was refused since a datagram means nothing to the node.
+/// Whether the fault is a datagram that means nothing to the node.
 fn is_foreign(fault: &TurnFault) -> bool {
     matches!(fault, TurnFault::Node(NodeFault::Foreign(_)))
 }

@@ -1,5 +1,5 @@
-//! The turns of a node that has built what it claims.
-ghost use Rattle.std.specs.Prelude.{◌≡◌};
+//! The turns of a node whose claims are built while it runs.
+ghost use Rattle.std.specs.Prelude.{◌≡◌, true};
 ghost use Rattle.dpbn_build.specs.Build.{HasBuilt};
 ghost use Rattle.dpbn_build.specs.Turns.{HaveTurned, IsTurn, Turn};
 ghost use Rattle.udp.specs.declared.patience.Hurry.{Hurry};
@@ -7,25 +7,25 @@ ghost use Rattle.udp.specs.declared.patience.Hurry.{Hurry};
 use crate::ending::is_at_end;
 use crate::office::{Handed, Office, Turned};
 use datagram_ports::Port;
-use dpbn_node::Solo;
+use dpbn_node::{Initiative, Solo};
 use stable_record::{Disk, FileDisk};
 use std::io::Write;
 use std::time::Clock;
 use udp::{Hurry, Tallies, UdpPort};
 
-/// A port that can be told how long to wait, and that counts what it sends and sees.
+/// A port with an adjustable wait that counts what it sends and receives.
 pub(crate) trait Hurried {
-    /// The port once it is told how long to wait.
+    /// The port with this wait.
     ghost hurried: { Self → Hurry → Self };
 
-    /// Tells how long a receive waits where nothing came.
+    /// Sets how long a receive waits if nothing came.
     fn set_hurry(&mut self, hurry: Hurry)
         ensures { self.new ≡ hurried self.old hurry };
 
-    /// How many datagrams were offered so far.
+    /// The number of datagrams that were offered so far.
     fn sends(&self) -> u64;
 
-    /// What it saw of the members.
+    /// What it received from each member.
     fn seen(&self) -> &Tallies;
 }
 
@@ -45,43 +45,46 @@ impl<'c, C: Clock> Hurried for UdpPort<'c, C> {
     }
 }
 
-/// Takes turns until the node is down or comes to rest, and then sends what waits to leave. What a
-/// turn refuses is told on `err`, and so is what else is to be told as it goes.
+/// Takes turns until the node is down or at rest, and then sends what is still queued to be sent.
+/// Faults of turns are printed on `err`, and so are the node's lines. Returns whether the node is
+/// down or at rest. If it isn't, it took as many turns as can be counted.
 pub(crate) fn run<E: Write>(
     rt: &HostRuntime,
     solo: &mut Solo<'_, FileDisk, UdpPort<'_, HostRuntime>>,
     office: &mut Office<'_>,
     rest: Option<u32>,
     err: &mut E,
-)
-    ensures { HasBuilt rest solo.old solo.new }
+) -> bool
+    ensures { result ≡ true → HasBuilt rest solo.old solo.new }
 {
-    take_turns(rt, solo, office, rest, err);
+    let is_ended = take_turns(rt, solo, office, rest, err);
     solo.port().flush();
     office.telling.tell_members(solo.port().seen(), err);
+    is_ended
 }
 
-/// Takes turns until the node is down or comes to rest.
+/// Takes turns until the node is down or at rest, and returns whether it is.
 fn take_turns<D: Disk, P: Port + Hurried, E: Write>(
     rt: &HostRuntime,
     solo: &mut Solo<'_, D, P>,
     office: &mut Office<'_>,
     rest: Option<u32>,
     err: &mut E,
-)
-    ensures { HaveTurned D.is_kept D.history D.failures_of P.given P.offered P.does P.vouches
-        P.hurried rest solo.old solo.new }
+) -> bool
+    ensures { result ≡ true → HaveTurned D.is_kept D.history D.failures_of P.given P.offered
+        P.does P.vouches P.hurried rest solo.old solo.new }
 {
     for _ in 0..u64::MAX {
         take_turn(rt, solo, office, err);
         tell_turn(rt, solo, office, err);
         if is_at_end(rt, solo, office, rest, err) {
-            return;
+            return true;
         }
     }
+    false
 }
 
-/// Takes a turn, and keeps and tells what follows of it.
+/// Takes a turn, and updates and prints what follows from it.
 fn take_turn<D: Disk, P: Port + Hurried, E: Write>(
     rt: &HostRuntime,
     solo: &mut Solo<'_, D, P>,
@@ -95,7 +98,7 @@ fn take_turn<D: Disk, P: Port + Hurried, E: Write>(
     let is_wished = wish.is_some();
     solo.port().set_hurry(hurry);
     let before = solo.port().sends();
-    let answer = solo.turn_live(made.as_ref(), wish);
+    let answer = solo.turn_with(made.as_ref(), Initiative::Scheduled(wish));
     let has_sent = solo.port().sends() != before;
     let turned = Turned {
         answer,
@@ -105,7 +108,7 @@ fn take_turn<D: Disk, P: Port + Hurried, E: Write>(
     office.keep(rt, solo, turned, err);
 }
 
-/// Tells what is due behind a turn.
+/// Prints what is due after a turn.
 fn tell_turn<D: Disk, P: Port + Hurried, E: Write>(
     rt: &HostRuntime,
     solo: &mut Solo<'_, D, P>,

@@ -4,6 +4,7 @@ use Rattle.clap.specs.Words.{Row, Text, first_of}
 use Rattle.clap.proofs.OnLiterals.{clap_on_literals}
 use Rattle.clap.specs.declared.error.kind.ErrorKind.TheVariants as kind
 use Rattle.dpbn_cli.specs.Calls.{AreTaken, dpbn_app, faults_of, matched}
+use Rattle.dpbr_cli.specs.Explaining.{is_fault}
 
 abbrev name_at : List Text → Option Text
 name_at words = option_map (λ (p : Text × List Row). p.0) (matched words)
@@ -72,8 +73,8 @@ example_key_file : value_at (codes "key") (node_words (codes "--hosts=h:1,i:2,j:
 unfolding matched dpbn_app clap_on_literals
 example_key_file = refl
 
--- with hosts either a key or the flag that there is none is required; with a first port both are
--- optional
+-- with hosts either a key or the flag that the run has no key is required; with a first port both
+-- are optional
 example_unsealed : AreTaken (node_words (codes "--hosts=h:1" ∷ codes "--unsealed" ∷ codes "--continue" ∷ []))
 unfolding faults_of matched dpbn_app clap_on_literals
 example_unsealed = refl
@@ -183,3 +184,23 @@ example_no_value = refl
 example_help : faults_of (codes "dpbn" ∷ codes "node" ∷ codes "--help" ∷ []) ≡ kind.DisplayHelp ∷ []
 unfolding faults_of matched dpbn_app clap_on_literals
 example_help = refl
+
+-- the number of a fault, and another; the release, alone and with another word
+abbrev explain_words : Text → List Text
+explain_words number = codes "dpbn" ∷ codes "explain" ∷ number ∷ []
+
+example_explain : AreTaken (explain_words (codes "1209"))
+unfolding faults_of is_fault dpbn_app clap_on_literals
+example_explain = refl
+
+example_no_fault : faults_of (explain_words (codes "3")) ≡ kind.ValueValidation ∷ []
+unfolding faults_of is_fault dpbn_app clap_on_literals
+example_no_fault = refl
+
+example_release : AreTaken (codes "dpbn" ∷ codes "--version" ∷ [])
+unfolding faults_of
+example_release = refl
+
+example_release_more : faults_of (codes "dpbn" ∷ codes "--version" ∷ codes "key" ∷ []) ≡ kind.UnknownArgument ∷ []
+unfolding faults_of dpbn_app clap_on_literals
+example_release_more = refl

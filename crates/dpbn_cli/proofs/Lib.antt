@@ -1,4 +1,5 @@
 mod Examples
 mod Named
 mod Refused
+mod Released
 mod Taken

@@ -1,30 +1,28 @@
 -- The faults of refused words.
 use Rattle.std.proofs.Common.{◌≡◌, ◌∙◌, List, [], Option, subst, sym, inr}
 use Rattle.clap.specs.Kinds.{HasKind}
-use Rattle.clap.specs.Words.{IsAmong, Row, Text, fault_of, kind_of}
+use Rattle.clap.specs.Words.{IsAmong, Row, Text, fault_of, kind_of, subcommand_of}
 use Rattle.clap.specs.declared.error.Error.{Error}
 use Rattle.clap.specs.declared.error.kind.ErrorKind.{ErrorKind}
 use Rattle.clap.proofs.FaultLemmas.{first_fails, past}
 use Rattle.dpbn_cli.proofs.Taken.{taken_names_call}
-use Rattle.dpbn_cli.specs.Calls.{call_fault, dpbn_app, faults_of, matched}
-use Rattle.dpbn_cli.specs.inside.Naming.{NamesCall}
+use Rattle.dpbn_cli.specs.Calls.{call_fault, dpbn_app, parse_faults}
+use Rattle.dpbn_cli.specs.inside.Naming.{NamesCall, RefusesBy}
 
 -- what clap refuses is refused
-pub by_clap : (words : List Text) (e : Error) → HasKind (fault_of dpbn_app words) e → HasKind (faults_of words) e
-unfolding faults_of
-by_clap words e has = first_fails (fault_of dpbn_app words) (call_fault (matched words)) (kind_of e) has
+pub by_clap : (words : List Text) (e : Error) → HasKind (fault_of dpbn_app words) e → HasKind (parse_faults words) e
+by_clap words e has = first_fails (fault_of dpbn_app words) (call_fault (subcommand_of dpbn_app words)) (kind_of e) has
 
 -- words that clap accepts only have the fault of their call
-faults_left : (words : List Text) → fault_of dpbn_app words ≡ [] → faults_of words ≡ call_fault (matched words)
-unfolding faults_of
-faults_left words none = past (fault_of dpbn_app words) (call_fault (matched words)) none
+faults_left : (words : List Text) → fault_of dpbn_app words ≡ [] → parse_faults words ≡ call_fault (subcommand_of dpbn_app words)
+faults_left words none = past (fault_of dpbn_app words) (call_fault (subcommand_of dpbn_app words)) none
 
-module _ (words : List Text) (found : Option (Text × List Row)) (none : fault_of dpbn_app words ≡ []) (is : found ≡ matched words) where
-  pub nothing_left : call_fault found ≡ [] → faults_of words ≡ []
+module _ (words : List Text) (found : Option (Text × List Row)) (none : fault_of dpbn_app words ≡ []) (is : found ≡ subcommand_of dpbn_app words) where
+  pub nothing_left : call_fault found ≡ [] → parse_faults words ≡ []
   nothing_left sound = faults_left words none ∙ subst (λ m. call_fault m ≡ []) is sound
 
-  pub by_call : (e : Error) (kind : ErrorKind) → kind_of e ≡ kind → (NamesCall found → IsAmong kind (call_fault found)) → HasKind (faults_of words) e
+  pub by_call : (e : Error) (kind : ErrorKind) → kind_of e ≡ kind → RefusesBy found kind → HasKind (parse_faults words) e
   by_call e kind of among =
       let names : NamesCall found = subst NamesCall (sym is) (taken_names_call words none) in
-      let there : IsAmong kind (call_fault (matched words)) = subst (λ m. IsAmong kind (call_fault m)) is (among names) in
-      inr (subst (λ ks. IsAmong (kind_of e) ks) (sym (faults_left words none)) (subst (λ k. IsAmong k (call_fault (matched words))) (sym of) there))
+      let there : IsAmong kind (call_fault (subcommand_of dpbn_app words)) = subst (λ m. IsAmong kind (call_fault m)) is (among names) in
+      inr (subst (λ ks. IsAmong (kind_of e) ks) (sym (faults_left words none)) (subst (λ k. IsAmong k (call_fault (subcommand_of dpbn_app words))) (sym of) there))

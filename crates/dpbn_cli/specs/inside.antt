@@ -1,3 +1,2 @@
 -- What only bodies and proofs need.
-pub mod Apps
 pub mod Naming

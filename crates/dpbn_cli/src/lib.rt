@@ -2,20 +2,23 @@
 #![tactic(auto)]
 
 ghost use Rattle.std.specs.Prelude.{◌≡◌, IfErr, IfOk, [], map};
-ghost use Rattle.clap.specs.Words.{FailsBy, IsAmong, app_of, fault_of, kind_of, subcommand_rows_of};
-ghost use Rattle.dpbn_cli.specs.Calls.{IsCallOf, call_fault, cluster_app, counted_app, dpbn_app, faults_of, matched, nodes_app};
-ghost use Rattle.dpbn_cli.specs.inside.Naming.{NamesCall};
+ghost use Rattle.clap.specs.Words.{FailsBy, app_of, fault_of, kind_of, subcommand_of, subcommand_rows_of};
+ghost use Rattle.dpbn_cli.specs.Calls.{IsCallOf, call_fault, dpbn_app, faults_of, matched, parse_faults};
+ghost use Rattle.dpbn_cli.specs.inside.Naming.{RefusesBy};
 
-mod arguments;
 mod build;
+mod call_table;
 mod cluster;
+mod explain;
 mod key;
 mod node;
 mod one_node;
 mod shared;
 
+use call_table::CALLS;
 use clap::error::ErrorKind;
 use clap::{ArgMatches, Command, Error};
+use dpbr_cli::{asks_release, with_subcommands};
 use std::alloc::{AllocError, Global};
 use std::convert::AsStr;
 
@@ -112,21 +115,41 @@ pub enum Call<'a> {
     Key {
         file: &'a str,
     },
+    /// What a fault of this number means, and what to do.
+    Explain {
+        number: u16,
+    },
+    /// The release of the program.
+    Release,
 }
 
 /// The call of these words, of which the first is the program's name.
 ///
-/// Words that are not a call, or that ask for help, are refused with clap's text. So are words of
-/// `node` and `build` with one of these faults:
+/// Words that are not a call, or that ask for help, are refused with clap's text. So are words that
+/// ask for the explanation of a number that no fault has, and words of `node` and `build` with one
+/// of these faults:
 ///
 /// - neither the first port nor the hosts of the peers, or both of these;
-/// - hosts, and neither a key nor the flag that there is none;
+/// - hosts, and neither a key nor the flag that the run has no key;
 /// - both a key and that flag.
 pub fn dpbn_words<'a, S: AsStr>(alloc: Global, words: &'a [S]) -> Result<Call<'a>, Error>
     ensures call { IfOk result (IsCallOf (matched (map S.text words.entry.now))) }
     // If there is a call, there is no fault in the words. A refusal is either out of memory or of
     // the kind of one of their faults.
     ensures faults { FailsBy (faults_of (map S.text words.entry.now)) result }
+{
+    if asks_release(words) {
+        Ok(Call::Release)
+    } else {
+        parsed(alloc, words)
+    }
+}
+
+/// The call that clap parses from the words.
+fn parsed<'a, S: AsStr>(alloc: Global, words: &'a [S]) -> Result<Call<'a>, Error>
+    ensures call { IfOk result
+        (IsCallOf (subcommand_of dpbn_app (map S.text words.entry.now))) }
+    ensures faults { FailsBy (parse_faults (map S.text words.entry.now)) result }
 {
     let matches = matches_of(alloc, words)?;
     match call_of(&matches) {
@@ -137,8 +160,8 @@ pub fn dpbn_words<'a, S: AsStr>(alloc: Global, words: &'a [S]) -> Result<Call<'a
 
 /// clap's matches of the words.
 fn matches_of<'a, S: AsStr>(alloc: Global, words: &'a [S]) -> Result<ArgMatches<'a>, Error>
-    ensures matched { IfOk result
-        (λ m. subcommand_rows_of m ≡ matched (map S.text words.entry.now)) }
+    ensures matched { IfOk result (λ m. subcommand_rows_of m
+        ≡ subcommand_of dpbn_app (map S.text words.entry.now)) }
     ensures faults { FailsBy (fault_of dpbn_app (map S.text words.entry.now)) result }
 {
     let command = dpbn_command(alloc)?;
@@ -149,14 +172,14 @@ fn matches_of<'a, S: AsStr>(alloc: Global, words: &'a [S]) -> Result<ArgMatches<
 fn call_of<'a>(matches: &ArgMatches<'a>) -> Result<Call<'a>, ErrorKind>
     ensures call { IfOk result (IsCallOf (subcommand_rows_of matches.now)) }
     ensures sound { IfOk result (λ call. call_fault (subcommand_rows_of matches.now) ≡ []) }
-    ensures kind { IfErr result (λ kind. NamesCall (subcommand_rows_of matches.now)
-        → IsAmong kind (call_fault (subcommand_rows_of matches.now))) }
+    ensures kind { IfErr result (RefusesBy (subcommand_rows_of matches.now)) }
 {
     match matches.subcommand() {
         Some(("cluster", found)) => cluster::call_of(found).ok_or(ErrorKind::MissingSubcommand),
         Some(("node", found)) => node::call_of(found),
         Some(("build", found)) => build::call_of(found),
         Some(("key", found)) => key::call_of(found).ok_or(ErrorKind::MissingSubcommand),
+        Some(("explain", found)) => explain::call_of(found),
         _ => Err(ErrorKind::MissingSubcommand),
     }
 }
@@ -172,6 +195,7 @@ fn refusal(alloc: Global, kind: ErrorKind) -> Result<Error, AllocError>
         ErrorKind::ArgumentConflict => {
             "--base and --hosts cannot be given together, nor --key and --unsealed"
         }
+        ErrorKind::ValueValidation => "no fault has this number",
         _ => "the words name no call",
     };
     dpbn_command(alloc)?.error(kind, message)
@@ -182,30 +206,9 @@ fn refusal(alloc: Global, kind: ErrorKind) -> Result<Error, AllocError>
 fn dpbn_command<'a>(alloc: Global) -> Result<Command<'a>, AllocError>
     ensures { IfOk result (λ command. app_of command ≡ dpbn_app) }
 {
-    with_nodes(alloc)?.subcommand(key::command(alloc)?)
-}
-
-/// The command with only its subcommands for nodes.
-fn with_nodes<'a>(alloc: Global) -> Result<Command<'a>, AllocError>
-    ensures { IfOk result (λ command. app_of command ≡ nodes_app) }
-{
-    with_counted(alloc)?.subcommand(build::command(alloc)?)
-}
-
-/// The command with only its subcommands whose nodes take a given number of turns.
-fn with_counted<'a>(alloc: Global) -> Result<Command<'a>, AllocError>
-    ensures { IfOk result (λ command. app_of command ≡ counted_app) }
-{
-    with_cluster(alloc)?.subcommand(node::command(alloc)?)
-}
-
-/// The command with only its subcommand for all nodes.
-fn with_cluster<'a>(alloc: Global) -> Result<Command<'a>, AllocError>
-    ensures { IfOk result (λ command. app_of command ≡ cluster_app) }
-{
-    let cluster = cluster::command(alloc)?;
-    Command::new(alloc, "dpbn")
+    let command = Command::new(alloc, "dpbn")
         .about("Nodes that build a listing's packages together.")
-        .subcommand_required(true)
-        .subcommand(cluster)
+        .after_help("dpbn --version prints the release.")
+        .subcommand_required(true);
+    with_subcommands(alloc, command, CALLS.as_slice())
 }

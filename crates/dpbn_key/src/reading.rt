@@ -1,41 +1,27 @@
 //! Reading a key from a file.
-ghost use Rattle.std.specs.Prelude.{◌≡◌, IfErr, IfOk, OnErr, OnOk};
-ghost use Rattle.dpbn_key.specs.Keys.{IsExposed, IsWritten, RefusesKey, WritesNoKey};
+ghost use Rattle.std.specs.Prelude.{◌≡◌, IfErr, IfOk, OnOk};
+ghost use Rattle.dpbn_key.specs.Keys.{IsExposed, IsKeyAt, RefusesKey, WritesNoKey};
 ghost use Rattle.seals.specs.KeyText.{WritesKey};
 
 use crate::fault::KeyFault;
+use crate::key_files::KeyFiles;
 use seals::key_of_text;
-use std::fs;
-use std::fs::File;
-use std::io::Read;
-use std::os::unix::fs::MetadataExt;
-
-/// The maximum number of bytes that are read of a file: one more than the text of a key has.
-const MOST: u64 = 66;
 
 /// The bits of a mode that concern others than the file's owner. None may be set.
 const OF_OTHERS: u32 = 0o77;
 
-/// Reads the key in a file, which only the file's owner may read, write or run. The mode that is
-/// tested is that of the opened file, even if the name refers to another one by then.
+/// Reads the key in the file with this name, which only the file's owner may read, write or run.
 ///
 /// # Errors
 ///
-/// The system's refusal, also if it is not a regular file; that of the mode; that of the text. In
-/// this order.
-pub fn key_of_file(rt: &HostRuntime, file: &str) -> Result<[u8; 32], KeyFault>
-    ensures key { IfOk result IsWritten }
-    ensures refused { IfErr result RefusesKey }
+/// The system's refusal; that of the mode; that of the text. In this order.
+pub fn key_of_file<K: KeyFiles>(files: &K, name: &str) -> Result<[u8; 32], KeyFault>
+    ensures key { IfOk result (IsKeyAt (K.gave files.now) name.now) }
+    ensures refused { IfErr result (RefusesKey (K.gave files.now) name.now) }
 {
-    // Opening a FIFO would wait for a writer.
-    if !fs::metadata(rt, file)?.is_file() {
-        return Err(KeyFault::Files);
-    }
-    let file = File::open(rt, file)?;
-    test_mode(file.metadata()?.mode())?;
-    let mut text = Vec::new(rt.alloc());
-    file.take(MOST).read_to_end(&mut text)?;
-    key_in(text.as_slice())
+    let file = files.read(name)?;
+    test_mode(file.mode)?;
+    key_in(file.text.as_slice())
 }
 
 /// Tests that only its owner may use a file with this mode.

@@ -1,3 +1,4 @@
 mod RepeatLemmas
 mod RequestLemmas
 mod Shown
+mod TakenTurns

@@ -16,7 +16,7 @@ use Rattle.faults.specs.Bytes.{Text, comma}
 use Rattle.faults.specs.Pieces.{pieces_at}
 use Rattle.listing.specs.Tree.{Tree}
 use Rattle.node.specs.Calls.{IsOpened}
-use Rattle.node.specs.OnLog.{IsOnLog, identity_of, texts_of}
+use Rattle.node.specs.OnLog.{IsOnLog, identity, identity_of, texts_of}
 use Rattle.node.specs.Refusals.{number_of}
 use Rattle.node.specs.State.{LoggedNode, NodeState}
 use Rattle.node.specs.declared.fault.NodeFault.{NodeFault}
@@ -29,8 +29,8 @@ pub use Rattle.lone_node.specs.Handed.{SoFar}
 pub use Rattle.lone_node.specs.State.{SoloState}
 pub use Rattle.lone_node.specs.Turns.{IsTurn, Outcome}
 use Rattle.stable_record.specs.Crash.{AllAlong}
-use Rattle.stable_record.specs.History.{seen}
-use Rattle.stable_record.specs.Opening.{Opens, OpensAsLeft}
+use Rattle.stable_record.specs.History.{History, seen}
+use Rattle.stable_record.specs.Opening.{HasOneAnswer, Opens, OpensAsLeft}
 use Rattle.stable_record.specs.RealFile.{file_agrees, file_history}
 use Rattle.stable_record.specs.declared.file_disk.FileDisk.{FileDisk}
 use Rattle.udp.specs.Calls.{setup_of}
@@ -67,25 +67,35 @@ pub record HasFlushed (old new : Running) : Type 0 where
       ≡ old.port.handed.all ++ texts_that_wait old.port.leaving.waiting.items
 
 -- The node is the member's, over the tree, among members with these weights, as restored from this
--- log's notes. Suppose the file does what its history says. Then these are the log's notes, the
--- node has them on it, and a crash while it was opened left what a crash before could leave.
+-- log's notes. Suppose the file does what its history says. Then it did so before, these are the
+-- log's notes, the node has them on it, and a crash while it was opened left what a crash before
+-- could leave. The bytes of a file determine its notes.
 pub record IsNodeOf (tree : Tree) (weights : List ℕ) (me : ℕ) (log : FileDisk)
     (n : LoggedNode FileDisk) : Type 0 where
   pub opened : IsOpened tree weights me n.node
+  pub kept : file_agrees n.log.disk → file_agrees log
   pub notes : file_agrees n.log.disk → Opens (identity_of n.node.member) (seen (file_history log))
       (Ok (texts_of n.node.notes))
   pub on_log : file_agrees n.log.disk → IsOnLog file_history n
   pub any_moment : file_agrees n.log.disk → AllAlong
       (OpensAsLeft (identity_of n.node.member) (file_history log)) (file_history log)
       (file_history n.log.disk)
+  pub one_answer : HasOneAnswer (identity tree weights me)
 
--- `Is` holds of the member's node, which was opened on this log, with no state from earlier turns
--- and this port.
+-- The state is that of the member's node, which was opened on this log, with no state from earlier
+-- turns and this port.
+pub record IsOpenedOn (log : FileDisk) (own_port : UdpPort LibcRuntime) (tree : Tree)
+    (weights : List ℕ) (me : ℕ) (s : Running) : Type 0 where
+  pub node : IsNodeOf tree weights me log s.node
+  pub pending : s.pending ≡ nothing_kept
+  pub port : s.port ≡ own_port
+
+-- `Is` holds of the state of the member's node when it was opened on this log with this port.
 pub record IsOfNodeOn (log : FileDisk) (port : UdpPort LibcRuntime) (tree : Tree)
     (weights : List ℕ) (me : ℕ) (Is : Running → Type 0) : Type 0 where
-  pub node : LoggedNode FileDisk
-  pub is_node : IsNodeOf tree weights me log node
-  pub is : Is (record { node = node; pending = nothing_kept; port = port })
+  pub before : Running
+  pub opened : IsOpenedOn log port tree weights me before
+  pub is : Is before
 
 -- ---- runs
 
@@ -113,15 +123,15 @@ Listen (Hosts text) members addresses =
     (length addresses ≡ members) × WriteHosts (pieces_at comma text.now) addresses
 
 -- The run is the one that the arguments describe. A listing describes the tree, in which each path
--- is a group of its own if `is_single`. The weights, the addresses and the key are those of the
--- arguments. Unless there is a key, datagrams from strangers are accepted if all members are on one
--- host.
-pub record IsRunOf (is_single : Bool) (members : ℕ) (weights : Option Text) (peers : Peers)
-    (run : Run) (of : RunOf) : Type 0 where
+-- is a group of its own if `is_single`. The weights and the addresses are those of the arguments,
+-- and a read of the key's file gave the key. Unless there is a key, datagrams from strangers are
+-- accepted if all members are on one host.
+pub record IsRunOf (gave : Text → ℕ → Text → Type 0) (is_single : Bool) (members : ℕ)
+    (weights : Option Text) (peers : Peers) (run : Run) (of : RunOf) : Type 0 where
   pub described : IsDescribed is_single of.tree
   pub told : AreTold members weights of.weights
   pub listen : Listen peers members of.addresses
-  pub has_key : IsKeyOf (option_map (λ t. t.now) run.key) of.key
+  pub has_key : IsKeyOf gave (option_map (λ t. t.now) run.key) of.key
   pub open_to : of.is_open ≡ is_local peers
   pub continued : of.is_continued ≡ run.is_continued
 
@@ -151,19 +161,22 @@ pub record IsSeated (of : RunOf) (me : ℕ) (port : UdpPort LibcRuntime) : Type 
   pub lone : length port.seats.items ≡ 1
   pub addresses : port.addresses.items ≡ of.addresses
 
--- A start in the run was made for the member, and the port is its own and accepts only what the run
+-- A start in the run was made for the member, in a folder in which a read of its run file gave
+-- this, and about whose log this is supposed. The port is its own and accepts only what the run
 -- allows.
-pub record HasBegun (of : RunOf) (me : ℕ) (begun : Begun) : Type 0 where
-  pub started : IsStarted (owner of.tree of.weights me) (shown_of of.key) of.is_continued
-      (option_map string_bytes begun.start.unwritten)
+pub record HasBegun (gave : Option Text → Type 0) (known : History) (of : RunOf) (me : ℕ)
+    (begun : Begun) : Type 0 where
+  pub started : IsStarted gave known (owner of.tree of.weights me) (shown_of of.key)
+      of.is_continued begun.start.disk (option_map string_bytes begun.start.unwritten)
   pub seated : IsSeated of me begun.port
   pub guarded : IsGuarded of begun.port
 
--- `Is` holds of the member's node, which was opened on the log of a start in the run. The node has
--- no state from earlier turns, and a port of its own that accepts only what the run allows.
-pub record IsOfNode (of : RunOf) (me : ℕ) (Is : Running → Type 0) : Type 0 where
+-- `Is` holds of the state of the member's node when it was opened on the log of a start in the run,
+-- with a port of its own that accepts only what the run allows.
+pub record IsOfNode (gave : Option Text → Type 0) (known : History) (of : RunOf) (me : ℕ)
+    (Is : Running → Type 0) : Type 0 where
   pub begun : Begun
-  pub has_begun : HasBegun of me begun
+  pub has_begun : HasBegun gave known of me begun
   pub opened : IsOfNodeOn begun.start.disk begun.port of.tree of.weights me Is
 
 -- the first port is low enough for all members
@@ -182,9 +195,9 @@ IsHostsRefusal members (Hosts text) r =
     × (r ≡ record { number = 1206; place = Some n })
 
 -- what is reported about the key's file or the hosts, or memory ran out
-abbrev pub RefusesPlace : ℕ → Peers → Run → Refusal → Type 0
-RefusesPlace members peers run r =
-    RefusesKeyFile (option_map (λ t. t.now) run.key) r
+abbrev pub RefusesPlace : (Text → ℕ → Text → Type 0) → ℕ → Peers → Run → Refusal → Type 0
+RefusesPlace gave members peers run r =
+    RefusesKeyFile gave (option_map (λ t. t.now) run.key) r
     ⊎ (IsHostsRefusal members peers r ⊎ (r ≡ memory_refusal))
 
 -- no member has this number
@@ -200,11 +213,12 @@ abbrev pub IsLogRefusal : Refusal → Type 0
 IsLogRefusal r = (f : NodeFault) × (r ≡ record { number = number_of f; place = None })
 
 -- what is reported about the member's number, the start on the log, the socket, or the log
-abbrev pub RefusesStart : ℕ → RunOf → Refusal → Type 0
-RefusesStart me of r =
+abbrev pub RefusesStart : (ℕ → Type 0) → (Option Text → Type 0) → ℕ → RunOf → Refusal → Type 0
+RefusesStart had_mode gave me of r =
     IsSystemRefusal r
     ⊎ (((r ≡ member_refusal) × (length of.weights ≤ me))
-    ⊎ (IsStartRefusal (owner of.tree of.weights me) (shown_of of.key) of.is_continued r
+    ⊎ (IsStartRefusal had_mode gave (owner of.tree of.weights me) (shown_of of.key)
+    of.is_continued r
     ⊎ ((r ≡ socket_refusal) ⊎ IsLogRefusal r)))
 
 -- the system's refusal if the run file can't be written, out of memory, or the log's refusal

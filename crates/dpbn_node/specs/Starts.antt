@@ -1,5 +1,5 @@
 -- The log that a node of a run starts on.
-use Rattle.std.specs.Prelude.{◌≡◌, ℕ, Bool, List, Option}
+use Rattle.std.specs.Prelude.{◌≡◌, ⊤, ℕ, Bool, List, Option}
 use Rattle.faults.specs.Bytes.{Text}
 use Rattle.listing.specs.Digest.{digest_text}
 use Rattle.listing.specs.Tree.{Tree}
@@ -18,9 +18,19 @@ owner tree weights me = record {
   me = me;
 }
 
+-- Each folder may have each mode: no contract says what mode a folder of the system has.
+abbrev pub AnyMode : ℕ → Type 0
+AnyMode mode = ⊤
+
+-- Each read of a run file may have given each text, or that there is none: no contract says what
+-- the system's files give.
+abbrev pub AnyRunFile : Option Text → Type 0
+AnyRunFile text = ⊤
+
 -- what is reported if the owner's node doesn't start on the log and the run file that it finds, in
 -- a run whose key is shown as this
-abbrev pub IsStartRefusal : Identity → Option Text → Bool → Refusal → Type 0
-IsStartRefusal i shown is_continued r =
-    (f : StartFault) × RefusesStart i shown is_continued f
+abbrev pub IsStartRefusal : (ℕ → Type 0) → (Option Text → Type 0) → Identity → Option Text → Bool
+    → Refusal → Type 0
+IsStartRefusal had_mode gave i shown is_continued r =
+    (f : StartFault) × RefusesStart had_mode gave i shown is_continued f
     × (r ≡ record { number = number_of_start f; place = place_of_start f })

@@ -1,27 +1,28 @@
 //! The result of `dpbn node`.
 ghost use Rattle.std.specs.Prelude.{◌≡◌, ◌<◌, ◌≤◌, IfErr, IfOk, length, string_bytes};
-ghost use Rattle.dpbn_node.specs.Node.{IsLineAfter, IsNodeText, IsShown, IsShownOn, RefusesNode};
-ghost use Rattle.dpbn_node.specs.Runs.{AreGood, RefusesOnLog, RefusesStart, letters_of, run_at};
+ghost use Rattle.dpbn_node.specs.Node.{IsLineAfter, IsNodeText, IsShown, RefusesNode};
+ghost use Rattle.dpbn_node.specs.Runs.{AreGood, RefusesStart, letters_of, run_at};
 ghost use Rattle.program_io.specs.NodeLine.{IsLineOf};
 
+use crate::Telling;
 use crate::given::{Given, given_of_words};
-use crate::starting::{Begun, Place, begin, open, place_of_words};
+use crate::starting::{Begun, Place, begin, place_of_words, solo_on_log};
 use crate::turning::run;
-use crate::{Telling, write_unwritten};
 use datagram_ports::Port;
 use dpbn_cli::{Files, Peers, Run};
+use dpbn_key::SystemKeys;
 use listing::Tree;
 use lone_node::Solo;
 use program_io::{Answer, Refusal, node_text, tree_of_file};
 use protocol::Packages;
-use run_file::Start;
+use run_file::{LogFolder, SupposedEmpty, SystemFolder};
 use stable_record::{Disk, FileDisk};
 use std::alloc::{AllocError, Global};
 use std::io::Write;
 use udp::UdpPort;
 
 /// Runs the member's node for the given number of turns, and returns its line. Why a turn is
-/// refused is printed on `err`; the turn counts.
+/// refused is printed on `err`; the turn counts, unless memory ran out.
 ///
 /// Everything that can be wrong is checked before the first turn, in this order: the listing, the
 /// builds, the weights, the key's file, the hosts, the member, the log's file and its run file, the
@@ -29,7 +30,7 @@ use udp::UdpPort;
 ///
 /// # Errors
 ///
-/// The first of these that is wrong.
+/// The first of these that is wrong; out of memory, for the line or in too many turns.
 pub fn node_of_words<E: Write>(
     rt: &HostRuntime,
     files: &Files<'_>,
@@ -47,8 +48,10 @@ pub fn node_of_words<E: Write>(
 {
     let tree = tree_of_file(rt, files.listing, files.is_single)?;
     let given = given_of_words(rt, files)?;
-    let place = place_of_words(rt, files.members, peers, patience, run)?;
-    match run_on(rt, &tree, &given, files, me, place, err) {
+    let keys = SystemKeys::of(rt);
+    let place = place_of_words(rt.alloc(), &keys, files.members, peers, patience, run)?;
+    let folder: SystemFolder<'_, SupposedEmpty> = SystemFolder::at(rt, files.dir);
+    match run_on(rt, &folder, &tree, &given, files, me, place, err) {
         Ok(text) => Ok(Answer {
             text: text.into_bytes(),
             status: 0,
@@ -58,8 +61,9 @@ pub fn node_of_words<E: Write>(
 }
 
 /// The line of the member's node after it ran on its log.
-fn run_on<E: Write>(
+fn run_on<F: LogFolder, E: Write>(
     rt: &HostRuntime,
+    folder: &F,
     tree: &Tree,
     given: &Given,
     files: &Files<'_>,
@@ -70,45 +74,16 @@ fn run_on<E: Write>(
     requires each { length place.addresses.items ≡ files.now.members }
     requires weights { length given.now.weights ≡ files.now.members }
     ensures member { IfOk result (λ text. me < files.now.members) }
-    ensures shown { IfOk result (λ text. IsShown (run_at tree.now given.now.weights place) me
-        given.now.builds files.now.turns (string_bytes text)) }
-    ensures refused { IfErr result
-        (RefusesStart me (run_at tree.now given.now.weights place)) }
+    ensures shown { IfOk result (λ text. IsShown (F.gave folder.now me) (F.known folder.now me)
+        (run_at tree.now given.now.weights place) me given.now.builds files.now.turns
+        (string_bytes text)) }
+    ensures refused { IfErr result (RefusesStart (F.had_mode folder.now) (F.gave folder.now me) me
+        (run_at tree.now given.now.weights place)) }
 {
     let telling = Telling::new(rt.alloc(), me, files.progress, place.sealing.is_watched());
-    let begun = begin(rt, tree, &given.weights, files.dir, me, place)?;
+    let begun = begin(rt, tree, &given.weights, folder, me, place)?;
     let Begun { start, port } = begun;
-    node_on_log(rt, start, port, tree, given, files, me, telling, err)
-}
-
-/// Opens the member's node on its log, writes its run file if that isn't written yet, takes its
-/// turns, and returns its line. This holds whatever is known of the log's file before: what its
-/// disk says of it, if the file does what that says.
-///
-/// # Errors
-///
-/// Why the log can't be opened as a node of the member; why the run file can't be written; out of
-/// memory for the line. In this order.
-pub fn node_on_log<E: Write>(
-    rt: &HostRuntime,
-    start: Start,
-    port: UdpPort<'_, HostRuntime>,
-    tree: &Tree,
-    given: &Given,
-    files: &Files<'_>,
-    me: u8,
-    telling: Telling,
-    err: &mut E,
-) -> Result<String, Refusal>
-    requires { me < length given.now.weights }
-    ensures shown { IfOk result (λ text. IsShownOn start.disk port.entry tree.now
-        given.now.weights me given.now.builds files.now.turns (string_bytes text)) }
-    ensures refused { IfErr result RefusesOnLog }
-{
-    let Start { disk, unwritten } = start;
-    let node = open(rt.alloc(), disk, tree, &given.weights, me)?;
-    write_unwritten(rt, files.dir, me, unwritten)?;
-    let solo = Solo::new(node, port);
+    let solo = solo_on_log(rt, start, port, tree, &given.weights, files.dir, me)?;
     match line_after(
         rt.alloc(),
         solo,
@@ -124,6 +99,10 @@ pub fn node_on_log<E: Write>(
 }
 
 /// The line of the node after it took its turns.
+///
+/// # Errors
+///
+/// Out of memory, for the line or in too many turns.
 fn line_after<E: Write>(
     alloc: Global,
     solo: Solo<'_, FileDisk, UdpPort<'_, HostRuntime>>,
@@ -138,12 +117,19 @@ fn line_after<E: Write>(
 {
     let mut solo = solo;
     let mut telling = telling;
-    run(alloc, &mut solo, builds, turns, &mut telling, err);
+    let taken = run(alloc, &mut solo, builds, turns, &mut telling, err);
+    if taken != turns {
+        return Err(AllocError);
+    }
     line_of(alloc, &solo, me)
 }
 
 /// The line of the node in its present state.
-fn line_of<D: Disk, P: Port>(
+///
+/// # Errors
+///
+/// Out of memory.
+pub fn line_of<D: Disk, P: Port>(
     alloc: Global,
     solo: &Solo<'_, D, P>,
     me: u8,

@@ -1,5 +1,6 @@
 //! How a node finds its log.
 ghost use Rattle.std.specs.Prelude.{◌≡◌, IfErr, IfOk, option_map, string_bytes};
+ghost use Rattle.run_file.specs.Looking.{IsOwn};
 ghost use Rattle.dpbn_node.specs.Keys.{shown_of};
 ghost use Rattle.dpbn_node.specs.Starts.{IsStartRefusal, owner};
 ghost use Rattle.program_io.specs.Refusals.{IsSystemRefusal};
@@ -10,30 +11,35 @@ use arrayvec::ArrayVec;
 use ballots::Weights;
 use listing::Tree;
 use program_io::Refusal;
-use run_file::{Start, start_on, write_run};
+use run_file::{LogFolder, Start, start_on, write_run};
 use stable_record::Identity;
+use std::alloc::Global;
 
-/// Finds what the member's node starts on, in this folder, which must exist. Nothing is written to
-/// a file yet.
+/// Finds what the member's node starts on, in this folder, in which only its owner may write.
+/// Nothing is written to a file yet.
 ///
 /// # Errors
 ///
-/// The system's refusal, also if the log is locked; that the log can't be read; that it is lost,
-/// belongs to another run, or is missing although the run is continued.
-pub fn start_of(
-    rt: &HostRuntime,
-    folder: &str,
+/// The system's refusal, also if the log is locked; that others may write in the folder; that the
+/// log can't be read; that it is lost, belongs to another run, or is missing although the run is
+/// continued.
+pub fn start_of<F: LogFolder>(
+    alloc: Global,
+    folder: &F,
     identity: &Identity,
     sealing: &Sealing,
     is_continued: bool,
 ) -> Result<Start, Refusal>
-    ensures started { IfOk result (λ s. IsStarted identity.now (shown_of sealing.now.key)
-        is_continued (option_map string_bytes s.unwritten)) }
-    ensures refused { IfErr result
-        (IsStartRefusal identity.now (shown_of sealing.now.key) is_continued) }
+    ensures own { IfOk result (λ _. IsOwn (F.had_mode folder.now)) }
+    ensures started { IfOk result (λ s. IsStarted (F.gave folder.now identity.now.me)
+        (F.known folder.now identity.now.me) identity.now (shown_of sealing.now.key) is_continued
+        s.disk (option_map string_bytes s.unwritten)) }
+    ensures refused { IfErr result (IsStartRefusal (F.had_mode folder.now)
+        (F.gave folder.now identity.now.me) identity.now (shown_of sealing.now.key)
+        is_continued) }
 {
     let shown = sealing.shown();
-    match start_on(rt, folder, identity, shown.as_ref(), is_continued) {
+    match start_on(alloc, folder, identity, shown.as_ref(), is_continued) {
         Ok(start) => Ok(start),
         Err(fault) => Err(Refusal::of(&fault)),
     }

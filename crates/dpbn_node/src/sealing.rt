@@ -7,7 +7,7 @@ ghost use Rattle.dpbn_node.specs.Keys.{IsKeyOf, RefusesKeyFile, seal_of, shown_o
 ghost use Rattle.dpbn_node.specs.Requests.{asks, request_front};
 
 use ballots::Weights;
-use dpbn_key::key_of_file;
+use dpbn_key::{KeyFiles, key_of_file};
 use listing::Tree;
 use program_io::Refusal;
 use seals::{Seal, fingerprint};
@@ -33,14 +33,16 @@ pub struct Sealing {
 /// # Errors
 ///
 /// The system's refusal; that others may read or write the file; that it has no key. In this order.
-pub fn key_of_words(rt: &HostRuntime, file: Option<&str>) -> Result<Option<[u8; 32]>, Refusal>
-    ensures key { IfOk result (IsKeyOf (option_map (λ t. t.now) file.entry)) }
-    ensures refused { IfErr result (RefusesKeyFile (option_map (λ t. t.now) file.entry)) }
+pub fn key_of_words<K: KeyFiles>(files: &K, name: Option<&str>) -> Result<Option<[u8; 32]>, Refusal>
+    ensures key { IfOk result
+        (IsKeyOf (K.gave files.now) (option_map (λ t. t.now) name.entry)) }
+    ensures refused { IfErr result
+        (RefusesKeyFile (K.gave files.now) (option_map (λ t. t.now) name.entry)) }
 {
-    let Some(file) = file else {
+    let Some(name) = name else {
         return Ok(None);
     };
-    match key_of_file(rt, file) {
+    match key_of_file(files, name) {
         Ok(key) => Ok(Some(key)),
         Err(fault) => Err(Refusal::of(&fault)),
     }

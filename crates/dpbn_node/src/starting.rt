@@ -6,7 +6,9 @@ ghost use Rattle.dpbn_node.specs.Runs.{
   IsHostsRefusal,
   IsLogRefusal,
   IsNodeOf,
+  IsOpenedOn,
   Listen,
+  RefusesOnLog,
   RefusesPlace,
   RefusesStart,
   is_local,
@@ -15,16 +17,19 @@ ghost use Rattle.dpbn_node.specs.Runs.{
   socket_refusal,
 };
 ghost use Rattle.dpbn_node.specs.Keys.{IsKeyOf};
+ghost use Rattle.run_file.specs.Looking.{IsOwn};
 ghost use Rattle.program_io.specs.Refusals.{memory_refusal};
 ghost use Rattle.udp.specs.Ways.{IsSeatOf};
 
-use crate::{Sealing, identity_of, key_of_words, start_of};
+use crate::{Sealing, identity_of, key_of_words, start_of, write_unwritten};
 use ballots::Weights;
 use dpbn_cli::{Peers, Run};
+use dpbn_key::KeyFiles;
 use listing::Tree;
+use lone_node::Solo;
 use node::Node;
 use program_io::Refusal;
-use run_file::Start;
+use run_file::{LogFolder, Start};
 use stable_record::FileDisk;
 use std::alloc::Global;
 use std::net::SocketAddr;
@@ -50,8 +55,9 @@ pub struct Place {
 /// # Errors
 ///
 /// Those of the key's file, and then those of the hosts.
-pub fn place_of_words(
-    rt: &HostRuntime,
+pub fn place_of_words<K: KeyFiles>(
+    alloc: Global,
+    keys: &K,
     members: u8,
     peers: &Peers<'_>,
     patience: Option<u16>,
@@ -61,14 +67,15 @@ pub fn place_of_words(
     requires peers { AreGood peers.now }
     ensures each { IfOk result (λ place. length place.addresses.items ≡ members) }
     ensures listen { IfOk result (λ place. Listen peers.now members place.addresses.items) }
-    ensures key { IfOk result
-        (λ place. IsKeyOf (option_map (λ t. t.now) run.now.key) place.sealing.key) }
+    ensures key { IfOk result (λ place. IsKeyOf (K.gave keys.now)
+        (option_map (λ t. t.now) run.now.key) place.sealing.key) }
     ensures open_to { IfOk result (λ place. place.sealing.is_open ≡ is_local peers.now) }
     ensures continued { IfOk result (λ place. place.is_continued ≡ run.now.is_continued) }
-    ensures refused { IfErr result (RefusesPlace members peers.now run.now) }
+    ensures refused { IfErr result
+        (RefusesPlace (K.gave keys.now) members peers.now run.now) }
 {
-    let key = key_of_words(rt, run.key)?;
-    let addresses = addresses_of(rt.alloc(), members, peers)?;
+    let key = key_of_words(keys, run.key)?;
+    let addresses = addresses_of(alloc, members, peers)?;
     Ok(Place {
         sealing: Sealing {
             key,
@@ -123,24 +130,33 @@ pub struct Begun<'c> {
 ///
 /// That no member has the number; why the node can't start on its log; that its address isn't
 /// available. In this order.
-pub fn begin<'c>(
+pub fn begin<'c, F: LogFolder>(
     rt: &'c HostRuntime,
     tree: &Tree,
     weights: &Weights,
-    folder: &str,
+    folder: &F,
     me: u8,
     place: Place,
 ) -> Result<Begun<'c>, Refusal>
     requires { length place.addresses.items ≡ length weights.now }
     ensures member { IfOk result (λ begun. me < length weights.now) }
-    ensures begun { IfOk result (HasBegun (run_at tree.now weights.now place) me) }
-    ensures refused { IfErr result (RefusesStart me (run_at tree.now weights.now place)) }
+    ensures own { IfOk result (λ begun. IsOwn (F.had_mode folder.now)) }
+    ensures begun { IfOk result (HasBegun (F.gave folder.now me) (F.known folder.now me)
+        (run_at tree.now weights.now place) me) }
+    ensures refused { IfErr result (RefusesStart (F.had_mode folder.now) (F.gave folder.now me) me
+        (run_at tree.now weights.now place)) }
 {
     if me as usize >= weights.len() {
         return Err(not_a_member());
     }
     let identity = identity_of(tree, weights, me);
-    let start = start_of(rt, folder, &identity, &place.sealing, place.is_continued)?;
+    let start = start_of(
+        rt.alloc(),
+        folder,
+        &identity,
+        &place.sealing,
+        place.is_continued,
+    )?;
     let guard = place.sealing.guard(tree, weights);
     let port = port_of(rt, place.addresses, me, place.patience, guard)?;
     Ok(Begun { start, port })
@@ -203,4 +219,32 @@ pub fn open<'a>(
             Err(Refusal::of(&fault))
         }
     }
+}
+
+/// Opens the member's node on the log of a start, writes its run file if that isn't written yet,
+/// and joins the node with its port. This holds whatever is known of the log's file before: what
+/// its disk says of it, if the file does what that says.
+///
+/// # Errors
+///
+/// Why the log can't be opened as a node of the member; why the run file can't be written. In this
+/// order.
+pub fn solo_on_log<'a, 'c>(
+    rt: &HostRuntime,
+    start: Start,
+    port: UdpPort<'c, HostRuntime>,
+    tree: &'a Tree,
+    weights: &Weights,
+    dir: &str,
+    me: u8,
+) -> Result<Solo<'a, FileDisk, UdpPort<'c, HostRuntime>>, Refusal>
+    requires { me < length weights.now }
+    ensures opened { IfOk result
+        (IsOpenedOn start.disk port.entry tree.entry.now weights.now me) }
+    ensures refused { IfErr result RefusesOnLog }
+{
+    let Start { disk, unwritten } = start;
+    let node = open(rt.alloc(), disk, tree, weights, me)?;
+    write_unwritten(rt, dir, me, unwritten)?;
+    Ok(Solo::new(node, port))
 }

@@ -1,12 +1,12 @@
 //! The turns of a node.
-ghost use Rattle.std.specs.Prelude.{◌≡◌};
-ghost use Rattle.dpbn_node.specs.Node.{HasRun};
+ghost use Rattle.std.specs.Prelude.{◌≡◌, ◌+◌, ◌<◌, Err, if◌then◌else◌};
+ghost use Rattle.dpbn_node.specs.Node.{HasRun, HaveTaken};
 ghost use Rattle.lone_node.specs.Handed.{AllBuilds};
-ghost use Rattle.lone_node.specs.Turns.{HaveTurned, IsTurn, Outcome};
+ghost use Rattle.lone_node.specs.Turns.{IsTurn, Outcome, counts};
 
 use crate::Telling;
 use datagram_ports::Port;
-use lone_node::Solo;
+use lone_node::{Solo, TurnFault};
 use program_io::Refusal;
 use protocol::Packages;
 use stable_record::{Disk, FileDisk};
@@ -27,8 +27,11 @@ impl<'c, C: Clock> Counting for UdpPort<'c, C> {
     }
 }
 
-/// Takes the given number of turns, and then sends all queued datagrams. Why a turn is refused is
-/// printed on `err`, and so are the other lines that are due.
+/// Takes the given number of turns, sends all queued datagrams, and returns how many turns it took.
+/// Why a turn is refused is printed on `err`, and so are the other lines that are due.
+///
+/// A turn in which memory runs out doesn't count, and is taken again. After as many of these as
+/// turns were asked for, fewer turns may have been taken; otherwise all were.
 pub fn run<E: Write>(
     alloc: Global,
     solo: &mut Solo<'_, FileDisk, UdpPort<'_, HostRuntime>>,
@@ -36,15 +39,16 @@ pub fn run<E: Write>(
     turns: u32,
     telling: &mut Telling,
     err: &mut E,
-)
-    ensures { HasRun builds.now turns solo.old solo.new }
+) -> u32
+    ensures { HasRun builds.now result solo.old solo.new }
 {
-    take_turns(alloc, solo, builds, turns, telling, err);
+    let taken = take_turns(alloc, solo, builds, turns, telling, err);
     solo.port().flush();
     telling.tell_members(solo.port().seen(), err);
+    taken
 }
 
-/// Takes the given number of turns.
+/// Takes the given number of turns, and returns how many it took.
 fn take_turns<D: Disk, P: Port + Counting, E: Write>(
     alloc: Global,
     solo: &mut Solo<'_, D, P>,
@@ -52,29 +56,60 @@ fn take_turns<D: Disk, P: Port + Counting, E: Write>(
     turns: u32,
     telling: &mut Telling,
     err: &mut E,
-)
-    ensures { HaveTurned D.is_kept D.history D.failures_of P.given P.offered P.does P.vouches
-        (AllBuilds builds.now) turns solo.old solo.new }
+) -> u32
+    ensures { HaveTaken D.is_kept D.history D.failures_of P.given P.offered P.does P.vouches
+        (AllBuilds builds.now) result solo.old solo.new }
 {
-    for _ in 0..turns {
-        take_turn(solo, builds, telling, err);
+    let mut taken = 0;
+    for _ in 0..2 * u64::from(turns) {
+        if taken >= turns {
+            return taken;
+        }
+        taken = taken_after(taken, take_turn(solo, builds, telling, err));
         tell_turn(alloc, solo, telling, err);
     }
+    taken
 }
 
-/// Takes a turn, and prints why it is refused, if it is.
+/// The number of turns that were taken, after one more that counts or doesn't.
+fn taken_after(taken: u32, counts: bool) -> u32
+    requires { taken < 4294967295 }
+    ensures { result ≡ taken + (if counts then 1 else 0) }
+{
+    if counts { taken + 1 } else { taken }
+}
+
+/// Takes a turn, prints why it is refused, if it is, and returns whether it counts: it doesn't if
+/// memory ran out.
 fn take_turn<D: Disk, P: Port, E: Write>(
     solo: &mut Solo<'_, D, P>,
     builds: &Packages,
     telling: &mut Telling,
     err: &mut E,
-)
+) -> bool
     ensures { (answer : Outcome) × IsTurn D.is_kept D.history D.failures_of P.given P.offered
-        P.does P.vouches (AllBuilds builds.now) solo.old solo.new answer }
+        P.does P.vouches (AllBuilds builds.now) solo.old solo.new answer
+        × (result ≡ counts answer) }
 {
     match solo.turn(builds) {
-        Ok(done) => drop(done),
-        Err(fault) => telling.refused(Refusal::of(&fault), err),
+        Ok(done) => {
+            drop(done);
+            true
+        }
+        Err(fault) => {
+            telling.refused(Refusal::of(&fault), err);
+            is_counted(fault)
+        }
+    }
+}
+
+/// Whether a turn that is refused so counts.
+fn is_counted(fault: TurnFault) -> bool
+    ensures { result ≡ counts (Err fault) }
+{
+    match fault {
+        TurnFault::Memory => false,
+        TurnFault::Node(_) | TurnFault::Down(_) | TurnFault::NotSent | TurnFault::NotFresh => true,
     }
 }
 

@@ -1,37 +1,25 @@
 //! `dpbr status [--single] LISTING HELD`.
-ghost use Rattle.std.specs.Prelude.{◌≡◌, IfNone, IfOk, IfSome, Some, codes, false};
-ghost use Rattle.clap.specs.Words.{found_of, rows_of, shape_of};
-ghost use Rattle.clap.specs.declared.builder.command.Command.TheViews.{out-Command as fields_of};
-ghost use Rattle.dpbr_cli.specs.Calls.{IsCallOf, status_command};
-ghost use Rattle.dpbr_cli.specs.inside.Naming.{HasBoth};
+ghost use Rattle.std.specs.Prelude.{IfNone, IfSome, Some, codes};
+ghost use Rattle.clap.specs.Words.{found_of, rows_of};
+ghost use Rattle.dpbr_cli.specs.Calls.{IsCallOf};
+ghost use Rattle.dpbr_cli.specs.inside.Naming.{NamesCall};
 
 use crate::Call;
-use crate::arguments::{self, is_single, required, text_of};
-use clap::{ArgMatches, Command};
-use std::alloc::{AllocError, Global};
-
-/// clap's command for the subcommand.
-pub fn command<'a>(alloc: Global) -> Result<Command<'a>, AllocError>
-    ensures shape { IfOk result (λ command. shape_of command ≡ status_command) }
-    ensures local { IfOk result (λ command. (fields_of command).has_globals ≡ false) }
-{
-    let listing = required(alloc, "LISTING", "a listing of the ports tree");
-    let held = required(alloc, "HELD", "the package paths that are held, one a line");
-    let about = "Prints the letter of each package path, and how many paths have each letter.";
-    arguments::command(alloc, "status", about, listing, held)
-}
+use crate::arguments::{is_set, text_of};
+use crate::call_table::{HELD, LISTING, SINGLE};
+use clap::ArgMatches;
 
 /// The call with the matched values.
 pub fn call_of<'a>(found: &ArgMatches<'a>) -> Option<Call<'a>>
     ensures some { IfSome result (IsCallOf (Some (codes "status", rows_of (found_of found.now)))) }
     ensures none { IfNone result
-        (¬ HasBoth (rows_of (found_of found.now)) (codes "LISTING") (codes "HELD")) }
+        (¬ NamesCall (Some (codes "status", rows_of (found_of found.now)))) }
 {
-    let listing = text_of(found, "LISTING")?;
-    let held = text_of(found, "HELD")?;
+    let listing = text_of(found, LISTING.0)?;
+    let held = text_of(found, HELD.0)?;
     Some(Call::Status {
         listing,
         held,
-        is_single: is_single(found),
+        is_single: is_set(found, SINGLE.0),
     })
 }

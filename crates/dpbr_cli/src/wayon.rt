@@ -1,72 +1,26 @@
 //! `dpbr wayon [--single] LISTING TRACE NODE PATH HOST BUILDS`.
-ghost use Rattle.std.specs.Prelude.{◌≡◌, IfNone, IfOk, IfSome, Some, codes, false};
-ghost use Rattle.clap.specs.Words.{app_of, found_of, rows_of, rule_of, shape_of};
-ghost use Rattle.clap.specs.declared.builder.command.Command.TheViews.{out-Command as fields_of};
-ghost use Rattle.dpbr_cli.specs.Calls.{IsCallOf, IsNumber, number, wayon_command};
-ghost use Rattle.dpbr_cli.specs.inside.Naming.{HasNumber, NamesWay, wayon_front};
+ghost use Rattle.std.specs.Prelude.{IfNone, IfSome, Some, codes};
+ghost use Rattle.clap.specs.Words.{found_of, rows_of};
+ghost use Rattle.dpbr_cli.specs.Calls.{IsCallOf};
+ghost use Rattle.dpbr_cli.specs.inside.Naming.{NamesCall};
 
 use crate::Call;
-use crate::arguments::{is_single, required, single, texts_of, with_words};
-use clap::{Arg, ArgMatches, Command, value_parser};
-use std::alloc::{AllocError, Global};
-
-/// clap's command for the subcommand.
-pub fn command<'a>(alloc: Global) -> Result<Command<'a>, AllocError>
-    ensures shape { IfOk result (λ command. shape_of command ≡ wayon_command) }
-    ensures local { IfOk result (λ command. (fields_of command).has_globals ≡ false) }
-{
-    let builds = required(alloc, "BUILDS", "files for package paths, as JSON");
-    with_words(front(alloc)?, host(alloc), builds)?.arg(single(alloc))
-}
-
-/// The command with the arguments up to the path.
-fn front<'a>(alloc: Global) -> Result<Command<'a>, AllocError>
-    ensures app { IfOk result (λ command. app_of command ≡ wayon_front) }
-    ensures local { IfOk result (λ command. (fields_of command).has_globals ≡ false) }
-{
-    let about = "Prints a trace with events behind it by which a node comes to hold a build.";
-    let listing = required(alloc, "LISTING", "a listing of the ports tree");
-    let trace = required(alloc, "TRACE", "the events of a run, as JSON");
-    let path = required(
-        alloc,
-        "PATH",
-        "a path of the packages that the node is to hold",
-    );
-    let command = with_words(Command::new(alloc, "wayon").about(about), listing, trace)?;
-    with_words(command, node(alloc), path)
-}
-
-/// The argument with a node's number.
-fn node<'a>(alloc: Global) -> Arg<'a>
-    ensures rule { rule_of result ≡ number (codes "NODE") 255 }
-    ensures local { result.global ≡ false }
-{
-    Arg::new(alloc, "NODE")
-        .help("the node that is to hold the packages")
-        .required(true)
-        .value_parser(value_parser!(u8))
-}
-
-/// The argument with a host's number.
-fn host<'a>(alloc: Global) -> Arg<'a>
-    ensures rule { rule_of result ≡ number (codes "HOST") 65535 }
-    ensures local { result.global ≡ false }
-{
-    Arg::new(alloc, "HOST")
-        .help("the host that builds them")
-        .required(true)
-        .value_parser(value_parser!(u16))
-}
+use crate::arguments::{is_set, number_of, text_of};
+use crate::call_table::{BUILDS, HOST, LISTING, NODE, PATH, SINGLE, TRACE};
+use clap::ArgMatches;
 
 /// The call with the matched values.
 pub fn call_of<'a>(found: &ArgMatches<'a>) -> Option<Call<'a>>
     ensures some { IfSome result (IsCallOf (Some (codes "wayon", rows_of (found_of found.now)))) }
-    ensures none { IfNone result (¬ NamesWay (rows_of (found_of found.now))) }
+    ensures none { IfNone result
+        (¬ NamesCall (Some (codes "wayon", rows_of (found_of found.now)))) }
 {
-    let (listing, trace) = texts_of(found, "LISTING", "TRACE")?;
-    let node = node_of(found)?;
-    let (path, builds) = texts_of(found, "PATH", "BUILDS")?;
-    let host = host_of(found)?;
+    let listing = text_of(found, LISTING.0)?;
+    let trace = text_of(found, TRACE.0)?;
+    let node = number_of(found, &NODE)? as u8;
+    let path = text_of(found, PATH.0)?;
+    let host = number_of(found, &HOST)? as u16;
+    let builds = text_of(found, BUILDS.0)?;
     Some(Call::Wayon {
         listing,
         trace,
@@ -74,24 +28,6 @@ pub fn call_of<'a>(found: &ArgMatches<'a>) -> Option<Call<'a>>
         path,
         host,
         builds,
-        is_single: is_single(found),
+        is_single: is_set(found, SINGLE.0),
     })
-}
-
-/// The number of the node.
-fn node_of(found: &ArgMatches<'_>) -> Option<u8>
-    ensures some { IfSome result (IsNumber (rows_of (found_of found.now)) (codes "NODE")) }
-    ensures none { IfNone result
-        (¬ HasNumber (rows_of (found_of found.now)) (codes "NODE") 255) }
-{
-    found.get_one("NODE")
-}
-
-/// The number of the host.
-fn host_of(found: &ArgMatches<'_>) -> Option<u16>
-    ensures some { IfSome result (IsNumber (rows_of (found_of found.now)) (codes "HOST")) }
-    ensures none { IfNone result
-        (¬ HasNumber (rows_of (found_of found.now)) (codes "HOST") 65535) }
-{
-    found.get_one("HOST")
 }

@@ -1,3 +1,4 @@
+mod EventLines
 pub mod NodeLines
 mod ReadAgain
 mod Refusing

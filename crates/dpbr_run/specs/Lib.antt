@@ -1,3 +1,4 @@
+pub mod Events
 pub mod ListLaws
 pub mod Run
 pub mod shared

@@ -1,5 +1,5 @@
 -- What `dpbr run` prints.
-use Rattle.std.specs.Prelude.{◌≡◌, ◌⊎◌, ◌++◌, ℕ, Bool, List, Option, None, Some, Ok, flat_map, if◌then◌else◌, length, slice_get}
+use Rattle.std.specs.Prelude.{◌≡◌, ◌⊎◌, ◌++◌, ℕ, Bool, List, Option, None, Some, Ok, false, flat_map, if◌then◌else◌, length, slice_get, true}
 use Rattle.engine.specs.State.{State}
 use Rattle.faults.specs.Bytes.{Text}
 use Rattle.listing.specs.Listing.{Rules, tree_of}
@@ -15,7 +15,8 @@ use Rattle.simulator.specs.History.{IsHistory, IsRunFault, History, taken}
 use Rattle.simulator.specs.declared.run_fault.RunFault.{RunFault}
 use Rattle.input_files.specs.Traces.{RefusesText}
 use Rattle.traces.specs.Trace.{Trace, trace_of}
-use Rattle.world.specs.World.{World, WorldNode, member_at}
+use Rattle.dpbr_run.specs.Events.{HasEventLines}
+use Rattle.world.specs.World.{World, WorldNode, member_at, start}
 
 -- the letters that a node shows: those of its member, if it is up
 abbrev pub letters_at : World → ℕ → WorldNode → Option State
@@ -45,6 +46,20 @@ pub record IsRunOf (tree : Tree) (trace text : Text) : Type 0 where
   pub is_history : IsHistory history
   pub outcome : IsOutcome history.world text
 
+-- The result with the lines of the events: those lines, and then the result without them.
+pub record IsRunWithEvents (tree : Tree) (trace text : Text) : Type 0 where
+  pub lines : Text
+  pub rest : Text
+  pub run : IsRunOf tree trace rest
+  pub are_lines : HasEventLines (start run.history.world.division run.history.world.weights) 1
+      (taken run.history) run.history.world lines
+  pub parts : text ≡ lines ++ rest
+
+-- the result, with the lines of the events or without
+abbrev pub IsResultOf : Bool → Tree → Text → Text → Type 0
+IsResultOf true tree trace text = IsRunWithEvents tree trace text
+IsResultOf false tree trace text = IsRunOf tree trace text
+
 -- the result of a trace for the tree that a listing describes
 pub record IsRunOfListing (rules : Rules) (listing trace text : Text) : Type 0 where
   pub tree : Tree
@@ -73,12 +88,12 @@ RefusesRun rules listing trace r = RefusesTexts rules listing (RefusesTrace trac
 
 -- the result of a trace for a listing, if reads of these names gave both
 pub record IsRun (Gave : Text → Text → Type 0) (listing_name trace_name : Text)
-    (is_single : Bool) (text : Text) : Type 0 where
+    (is_single has_events : Bool) (text : Text) : Type 0 where
   pub tree : Tree
   pub described : IsDescribedAt Gave listing_name is_single tree
   pub trace : Text
   pub from_trace : Gave trace_name trace
-  pub is_run : IsRunOf tree trace text
+  pub is_run : IsResultOf has_events tree trace text
 
 -- what is reported if one of the two files can't be read, or about the texts that reads of these
 -- names gave

@@ -1,2 +1,3 @@
 -- What bodies and proofs need, here and in crates that use this one.
+pub mod EventLines
 pub mod NodeLines

@@ -1,9 +1,11 @@
 //! What `dpbr run` does: it runs the events of a trace over a listing, and prints the state of the
-//! nodes and the agreed list afterwards.
+//! nodes and the agreed list afterwards. It can print a line for each event first.
 #![tactic(auto)]
 
+mod events;
 mod files;
 mod laws;
+mod lines;
 mod text;
 mod texts;
 

@@ -8,6 +8,7 @@ ghost use Rattle.job_folder.specs.Tasks.{name_of, task_of};
 use crate::LONGEST_ANSWER;
 use crate::answer::Answer;
 use crate::fault::WorkFault;
+use crate::lock::{Lock, lock_at};
 use crate::name::Name;
 use crate::text::job_text;
 use claims::Job;
@@ -15,8 +16,12 @@ use std::alloc::{AllocError, Global};
 use std::fs;
 use std::fs::{File, OpenOptions};
 use std::io::{ErrorKind, Read, Write};
+use std::time::{Duration, SystemTime};
 
-/// One of the three subfolders.
+/// A minute, in seconds.
+const MINUTE: u64 = 60;
+
+/// One of the subfolders.
 #[derive(Clone, Copy)]
 enum Part {
     /// What is to be built. The node writes here.
@@ -25,6 +30,8 @@ enum Part {
     Done,
     /// What failed. Builders write here, and the node does for results that it finds malformed.
     Failed,
+    /// What has begun. Builders write here.
+    Begun,
 }
 
 impl Part {
@@ -33,11 +40,12 @@ impl Part {
             Part::Jobs => "jobs",
             Part::Done => "done",
             Part::Failed => "failed",
+            Part::Begun => "begun",
         }
     }
 }
 
-/// A folder with three subfolders, through which jobs are given and builds returned. A file is
+/// A folder with subfolders, through which jobs are given and builds returned. A file is
 /// named after the task, and is always complete: it is written under a name that begins with a dot,
 /// synced and renamed, and then the folder is synced. After a crash at any moment a name has either
 /// the complete file or none.
@@ -162,6 +170,103 @@ impl<'f> Folder<'f> {
         self.stands(rt, Part::Done, name)
     }
 
+    /// Whether the job with this name has begun: whoever builds keeps a file for it. If nobody
+    /// attends to the folder, the file counts as long as somebody holds its own lock, as a build
+    /// does that goes on without the program that began it.
+    ///
+    /// # Errors
+    ///
+    /// What the system refused.
+    pub fn has_begun(&self, rt: &HostRuntime, name: &Name) -> Result<bool, WorkFault>
+        ensures { IfErr result IsOfSystem }
+    {
+        if !self.stands(rt, Part::Begun, name)? {
+            return Ok(false);
+        }
+        if self.is_attended(rt)? {
+            return Ok(true);
+        }
+        let path = self.path_of(rt.alloc(), Part::Begun, name)?;
+        Ok(lock_at(rt, path.as_str())? != Lock::Free)
+    }
+
+    /// Whether somebody may build here: the folder's lock isn't free, or its file was touched
+    /// lately.
+    fn is_attended(&self, rt: &HostRuntime) -> Result<bool, WorkFault>
+        ensures { IfErr result IsOfSystem }
+    {
+        if self.lock(rt)? != Lock::Free {
+            return Ok(true);
+        }
+        match self.touched_at(rt)? {
+            Some(touched_at) => Ok(is_lately(touched_at, SystemTime::now(rt)?)),
+            None => Ok(false),
+        }
+    }
+
+    /// Removes the job with this name, so that nobody begins it, and the file that shows it as
+    /// begun. Files that don't exist are no error.
+    ///
+    /// # Errors
+    ///
+    /// What the system refused.
+    pub fn withdraw(&self, rt: &HostRuntime, name: &Name) -> Result<(), WorkFault>
+        ensures { IfErr result IsOfSystem }
+    {
+        self.remove(rt, Part::Jobs, name)?;
+        self.remove(rt, Part::Begun, name)
+    }
+
+    /// Whether this host takes no jobs at the moment: a builder made a file `away`, since it can't
+    /// build now, or an operator, who drains the host, made a file `stop`.
+    ///
+    /// # Errors
+    ///
+    /// What the system refused.
+    pub fn is_away(&self, rt: &HostRuntime) -> Result<bool, WorkFault>
+        ensures { IfErr result IsOfSystem }
+    {
+        Ok(self.stands_beside(rt, "away")? || self.stands_beside(rt, "stop")?)
+    }
+
+    /// Whether a file with this name is beside the subfolders.
+    fn stands_beside(&self, rt: &HostRuntime, name: &str) -> Result<bool, WorkFault>
+        ensures { IfErr result IsOfSystem }
+    {
+        let folder = self.path;
+        let path = format!(in rt.alloc(); "{folder}/{name}")?;
+        Ok(fs::exists(rt, path.as_str())?)
+    }
+
+    /// What is known of the folder's lock, which a builder holds as long as it runs.
+    ///
+    /// # Errors
+    ///
+    /// What the system refused.
+    pub fn lock(&self, rt: &HostRuntime) -> Result<Lock, WorkFault>
+        ensures { IfErr result IsOfSystem }
+    {
+        let path = self.path_of_lock(rt.alloc())?;
+        lock_at(rt, path.as_str())
+    }
+
+    /// When the lock's file was last touched, if it exists. A builder touches it every ten seconds,
+    /// because not every file system shows its lock to other hosts.
+    ///
+    /// # Errors
+    ///
+    /// What the system refused.
+    pub fn touched_at(&self, rt: &HostRuntime) -> Result<Option<SystemTime>, WorkFault>
+        ensures { IfErr result IsOfSystem }
+    {
+        let path = self.path_of_lock(rt.alloc())?;
+        match fs::metadata(rt, path.as_str()) {
+            Ok(it) => Ok(Some(it.modified()?)),
+            Err(error) if error.kind() == ErrorKind::NotFound => Ok(None),
+            Err(error) => Err(WorkFault::from(error)),
+        }
+    }
+
     /// Marks the build with this name as failed, with a line that says why, because its result is
     /// malformed. After the mark is on the disk, the result is removed: so the job is built anew
     /// after somebody removes the mark.
@@ -259,11 +364,25 @@ impl<'f> Folder<'f> {
         format!(in alloc; "{place}/{digits}")
     }
 
+    /// The path of the folder's lock.
+    fn path_of_lock(&self, alloc: Global) -> Result<String, AllocError> {
+        let path = self.path;
+        format!(in alloc; "{path}/lock")
+    }
+
     /// The path of a subfolder.
     fn place_of(&self, alloc: Global, part: Part) -> Result<String, AllocError> {
         let path = self.path;
         let word = part.word();
         format!(in alloc; "{path}/{word}")
+    }
+}
+
+/// Whether a time is less than a minute ago, or still to come.
+fn is_lately(then: SystemTime, now: SystemTime) -> bool {
+    match now.duration_since(then) {
+        Ok(passed) => passed < Duration::from_secs(MINUTE),
+        Err(_) => true,
     }
 }
 

@@ -6,6 +6,7 @@ mod answer;
 mod fault;
 mod folder;
 mod laws;
+mod lock;
 mod name;
 mod text;
 
@@ -16,6 +17,7 @@ pub use crate::laws::{
     name_tells_the_task, task_text_is_first, text_tells_the_job, text_tells_the_task,
     text_tells_the_tree,
 };
+pub use crate::lock::Lock;
 pub use crate::name::Name;
 pub use crate::text::{job_text, task_text};
 

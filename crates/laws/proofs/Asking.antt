@@ -3,13 +3,15 @@ use Rattle.std.proofs.Common.{◌≡◌, ◌≤◌, ◌==◌, ℕ, Bool, true, f
 use Rattle.std.specs.List.{range_with_len}
 use Rattle.std.specs.Prelude.{is_none, option_and_then, option_map}
 use Rattle.claims.specs.declared.claim.Claim.{Claim}
-use Rattle.turn_rules.specs.Answering.{answer_of, answer_to, built_of, given_for}
-use Rattle.turn_rules.specs.Choice.{Chosen, IsChoice, IsFirstOwn, IsGivenOr, IsOwnIf, barred_at, comes_to, first_job, in_turn, job_at}
+use Rattle.turn_rules.specs.Answering.{answer_if, answer_to, built_of, given_for}
+use Rattle.turn_rules.specs.Choice.{Chosen, IsDoneBy, IsDoneIf, IsFirstDone, IsGivenOr, Who, answer_at, barred_at, comes_to, first_answer, in_turn}
 use Rattle.turn_rules.specs.Own.{Barred, IsOwnBy, claim_of, renewed}
 use Rattle.turn_rules.specs.Pending.{Pending, above_at}
 use Rattle.faults.specs.Answers.{first_given, option_or}
 use Rattle.laws.specs.Hosts.{IsOfATurn}
-use Rattle.turn_rules.specs.Live.{answer_if, asked_for, first_answer, first_going, goes_on, going_on, left_to_do, wished}
+use Rattle.turn_rules.specs.Scheduled.{asked_for, goes_on, scheduled}
+use Rattle.turn_rules.specs.declared.initiative.Initiative.{Initiative}
+use Rattle.turn_rules.specs.declared.initiative.Initiative.TheVariants.{Own, Scheduled}
 use Rattle.turn_rules.specs.declared.wish.Wish.{Wish}
 use Rattle.turn_rules.specs.declared.wish.Wish.TheVariants as wishes
 use Rattle.node.specs.State.{NodeState}
@@ -22,7 +24,7 @@ use Rattle.protocol.specs.Member.{IsMember}
 use Rattle.protocol.specs.State.{Building, Gathering, OpenClaim, Progress, State, Voting, name_at}
 use Rattle.protocol.specs.declared.input.Input.{Input}
 use Rattle.protocol.specs.declared.input.Input.TheVariants as inputs
-use Rattle.lone_node.specs.Handed.{AllBuilds, Handed, IsChoiceBy, SoFar}
+use Rattle.lone_node.specs.Handed.{Handed, IsChoiceBy}
 use Rattle.lone_node.specs.State.{only}
 use Rattle.one_list.proofs.matching.LawfulMatch.{few_members}
 
@@ -81,6 +83,42 @@ own_asks s small (Some o) above barred input is = by above is
         let same : input ≡ inputs.Claim (name_at s o.unit) s.me round = cc in
         subst (λ i. IsOfATurn (Does i)) (sym same) small
 
+-- ---- what it does for its scheduler
+
+wish_asks : (w : Wish) (s : State) → s.me ≤ 65535 → IsOfATurn (Does (asked_for w s))
+wish_asks (wishes.Claim path above) s small = small
+wish_asks (wishes.Ask path) s small = tt
+
+renewed_asks : (s : State) → s.me ≤ 65535 → (o : OpenClaim) (above : Option ℕ)
+    → IsOfATurn (Does (renewed s o above))
+renewed_asks s small o None = tt
+renewed_asks s small o (Some round) = small
+
+-- The input, if there is one, may be asked in a turn.
+abbrev AsksSo : Option Input → Type 0
+AsksSo None = Prim.Unit {0}
+AsksSo (Some input) = IsOfATurn (Does input)
+
+goes_asks : (s : State) → s.me ≤ 65535 → (o : OpenClaim) (at : Progress) (above : Option ℕ)
+    → AsksSo (goes_on s o at above)
+goes_asks s small o (Gathering c joined n) None = tt
+goes_asks s small o (Gathering c joined n) (Some round) = tt
+goes_asks s small o (Building c) above = tt
+goes_asks s small o (Voting b joined) above = renewed_asks s small o above
+
+scheduled_asks : (wish : Option Wish) (above : Option ℕ) (s : State) → s.me ≤ 65535
+    → (input : Input) → scheduled wish above s ≡ Some input → IsOfATurn (Does input)
+scheduled_asks wish above s small input is = subst AsksSo is (by wish)
+  where
+    going : (claim : Option OpenClaim)
+        → AsksSo (option_and_then (λ o. goes_on s o o.progress above) claim)
+    going None = tt
+    going (Some o) = goes_asks s small o o.progress above
+
+    by : (wish : Option Wish) → AsksSo (scheduled wish above s)
+    by None = going s.claim
+    by (Some w) = wish_asks w s small
+
 -- ---- the choice of a node that is the only one here
 
 module _ (n : NodeState) (small : n.member.me ≤ 65535) where
@@ -97,84 +135,7 @@ module _ (n : NodeState) (small : n.member.me ≤ 65535) where
           subst (λ m. m.me ≤ 65535) same small
       by false c at = absurd (let no : ◌≡◌ {A = Option State} None (Some s) = at in cc)
 
-  jobs_ask : (builds : Given) (ks : List ℕ) (x : ℕ × Asked)
-      → first_given (job_at (only n) builds) ks ≡ Some x → IsOfATurn x.1
-  jobs_ask builds [] x is =
-      absurd (let no : ◌≡◌ {A = Chosen} None (Some x) = is in cc)
-  jobs_ask builds (k ∷ ks) x is = by (only n k) is (jobs_ask builds ks x)
-    where
-      at_job : (s : State) (o : Option Input) → answer_of s builds ≡ o
-          → option_or (option_map (λ (input : Input). (k, Does input)) o)
-          (first_given (job_at (only n) builds) ks) ≡ Some x
-          → (first_given (job_at (only n) builds) ks ≡ Some x → IsOfATurn x.1) → IsOfATurn x.1
-      at_job s None answer is later = later is
-      at_job s (Some input) answer is later =
-          let known : ◌≡◌ {A = Chosen} (Some (k, Does input)) (Some x) = is in
-          let same : ◌≡◌ {A = ℕ × Asked} (k, Does input) x = cc in
-          subst (λ y. IsOfATurn y.1) same (job_asks s builds s.claim input answer)
-
-      by : (o : Option State)
-          → option_or (option_map (λ (input : Input). (k, Does input))
-          (option_and_then (λ s. answer_of s builds) o))
-          (first_given (job_at (only n) builds) ks) ≡ Some x
-          → (first_given (job_at (only n) builds) ks ≡ Some x → IsOfATurn x.1) → IsOfATurn x.1
-      by None is later = later is
-      by (Some s) is later = at_job s (answer_of s builds) refl is later
-
-  owns_ask : (count : ℕ) (p : Pending) (ks : List ℕ) (x : ℕ × Asked)
-      → IsFirstOwn (only n) count p ks (Some x) → IsOfATurn x.1
-  owns_ask count p [] x is =
-      absurd (let no : ◌≡◌ {A = Chosen} (Some x) None = is in cc)
-  owns_ask count p (k ∷ ks) x (None, own, later) = owns_ask count p ks x later
-  owns_ask count p (k ∷ ks) x (Some input, own, done) =
-      let known : ◌≡◌ {A = Chosen} (Some x) (Some (k, Does input)) = done in
-      let same : ◌≡◌ {A = ℕ × Asked} x (k, Does input) = cc in
-      subst (λ y. IsOfATurn y.1) (sym same) (by (only n k) refl own)
-    where
-      by : (o : Option State) → only n k ≡ o → IsOwnIf (only n) count p k o (Some input)
-          → IsOfATurn (Does input)
-      by None at own =
-          absurd (let no : ◌≡◌ {A = Option Input} (Some input) None = own in cc)
-      by (Some s) at own =
-          own_asks s (here_is k s at) s.claim (above_at p k) (barred_at (only n) count p k) input
-          own
-
-  pub choice_asks : (count : ℕ) (p : Pending) (builds : Given) (came : Arrived) (x : ℕ × Asked)
-      → IsChoice (only n) count p builds came (Some x) → IsOfATurn x.1
-  choice_asks count p builds came x is =
-      by_job (first_job (only n) count builds) refl is
-    where
-      by_here : (d : ℕ × List ℕ) (o : Option State)
-          → IsGivenOr (option_map (λ (s : State). (d.0, Comes d.1)) o) (Some x)
-          (IsFirstOwn (only n) count p (in_turn p.next count) (Some x))
-          → IsOfATurn x.1
-      by_here d None is = owns_ask count p (in_turn p.next count) x is
-      by_here d (Some s) is =
-          let known : ◌≡◌ {A = Chosen} (Some x) (Some (d.0, Comes d.1)) = is in
-          let same : ◌≡◌ {A = ℕ × Asked} x (d.0, Comes d.1) = cc in
-          subst (λ y. IsOfATurn y.1) (sym same) tt
-
-      by_came : (came : Arrived) → IsGivenOr (comes_to (only n) came) (Some x)
-          (IsFirstOwn (only n) count p (in_turn p.next count) (Some x))
-          → IsOfATurn x.1
-      by_came None is = owns_ask count p (in_turn p.next count) x is
-      by_came (Some d) is = by_here d (only n d.0) is
-
-      by_job : (o : Chosen) → first_job (only n) count builds ≡ o
-          → IsGivenOr (option_or o (comes_to (only n) came)) (Some x)
-          (IsFirstOwn (only n) count p (in_turn p.next count) (Some x)) → IsOfATurn x.1
-      by_job None job is = by_came came is
-      by_job (Some y) job is =
-          let known : ◌≡◌ {A = Chosen} (Some x) (Some y) = is in
-          let same : x ≡ y = cc in
-          jobs_ask builds (range_with_len 0 count) x
-          (subst (λ z. first_job (only n) count builds ≡ Some z) (sym same) job)
-
-  -- ---- the choice by the progress so far
-
-  wish_asks : (w : Wish) (s : State) → s.me ≤ 65535 → IsOfATurn (Does (asked_for w s))
-  wish_asks (wishes.Claim path above) s small_me = small_me
-  wish_asks (wishes.Ask path) s small_me = tt
+  -- ---- the answer to its job
 
   made_asks : (made : Option Given) (s : State) (input : Input)
       → answer_if made s ≡ Some input → IsOfATurn (Does input)
@@ -182,120 +143,97 @@ module _ (n : NodeState) (small : n.member.me ≤ 65535) where
       absurd (let no : ◌≡◌ {A = Option Input} None (Some input) = is in cc)
   made_asks (Some builds) s input is = job_asks s builds s.claim input is
 
-  goes_asks : (s : State) → s.me ≤ 65535 → (o : OpenClaim) (at : Progress) (above : Option ℕ)
-      (input : Input) → goes_on s o at above ≡ Some input → IsOfATurn (Does input)
-  goes_asks s small_me o (Gathering c joined n) None input is =
-      let known : ◌≡◌ {A = Option Input} (Some inputs.Nudge) (Some input) = is in
-      let same : inputs.Nudge ≡ input = cc in
-      subst (λ i. IsOfATurn (Does i)) same tt
-  goes_asks s small_me o (Gathering c joined n) (Some round) input is =
-      absurd (let no : ◌≡◌ {A = Option Input} None (Some input) = is in cc)
-  goes_asks s small_me o (Building c) above input is =
-      absurd (let no : ◌≡◌ {A = Option Input} None (Some input) = is in cc)
-  goes_asks s small_me o (Voting b joined) None input is =
-      let known : ◌≡◌ {A = Option Input} (Some inputs.Nudge) (Some input) = is in
-      let same : inputs.Nudge ≡ input = cc in
-      subst (λ i. IsOfATurn (Does i)) same tt
-  goes_asks s small_me o (Voting b joined) (Some round) input is =
-      let known : ◌≡◌ {A = Option Input} (Some (inputs.Claim (name_at s o.unit) s.me round))
-      (Some input) = is in
-      let same : inputs.Claim (name_at s o.unit) s.me round ≡ input = cc in
-      subst (λ i. IsOfATurn (Does i)) same small_me
-
-  going_asks : (above : Option ℕ) (s : State) → s.me ≤ 65535 → (claim : Option OpenClaim)
-      (input : Input) → option_and_then (λ o. goes_on s o o.progress above) claim ≡ Some input
-      → IsOfATurn (Does input)
-  going_asks above s small_me None input is =
-      absurd (let no : ◌≡◌ {A = Option Input} None (Some input) = is in cc)
-  going_asks above s small_me (Some o) input is = goes_asks s small_me o o.progress above input is
-
-  -- a turn asks for the first input that these give
-  each_asks : (f : ℕ → State → Option Input)
-      → ((k : ℕ) (s : State) → s.me ≤ 65535 → (input : Input) → f k s ≡ Some input
-      → IsOfATurn (Does input))
-      → (ks : List ℕ) (x : ℕ × Asked)
-      → first_given (λ k. option_map (λ input. (k, Does input)) (option_and_then (f k) (only n k)))
-      ks ≡ Some x
-      → IsOfATurn x.1
-  each_asks f asks [] x is = absurd (let no : ◌≡◌ {A = Chosen} None (Some x) = is in cc)
-  each_asks f asks (k ∷ ks) x is = by (each_asks f asks ks x) (only n k) refl is
+  -- the first answer of these nodes
+  answers_ask : (made : Option Given) (ks : List ℕ) (x : ℕ × Asked)
+      → first_given (answer_at (only n) (λ k. made)) ks ≡ Some x → IsOfATurn x.1
+  answers_ask made [] x is = absurd (let no : ◌≡◌ {A = Chosen} None (Some x) = is in cc)
+  answers_ask made (k ∷ ks) x is = by (answers_ask made ks x) (only n k) is
     where
       later : Chosen
-      later = first_given
-          (λ k. option_map (λ input. (k, Does input)) (option_and_then (f k) (only n k))) ks
+      later = first_given (answer_at (only n) (λ k. made)) ks
 
-      at_node : (later ≡ Some x → IsOfATurn x.1) → (s : State) → s.me ≤ 65535
-          → (o : Option Input) → f k s ≡ o
+      at_node : (later ≡ Some x → IsOfATurn x.1) → (s : State) (o : Option Input)
+          → answer_if made s ≡ o
           → option_or (option_map (λ (input : Input). (k, Does input)) o) later ≡ Some x
           → IsOfATurn x.1
-      at_node behind s small_me None e is = behind is
-      at_node behind s small_me (Some input) e is =
+      at_node behind s None e is = behind is
+      at_node behind s (Some input) e is =
           let known : ◌≡◌ {A = Chosen} (Some (k, Does input)) (Some x) = is in
           let same : ◌≡◌ {A = ℕ × Asked} (k, Does input) x = cc in
-          subst (λ y. IsOfATurn y.1) same (asks k s small_me input e)
+          subst (λ y. IsOfATurn y.1) same (made_asks made s input e)
 
-      by : (later ≡ Some x → IsOfATurn x.1) → (o : Option State) → only n k ≡ o
-          → option_or (option_map (λ (input : Input). (k, Does input)) (option_and_then (f k) o))
-          later ≡ Some x
+      by : (later ≡ Some x → IsOfATurn x.1) → (o : Option State)
+          → option_or (option_map (λ (input : Input). (k, Does input))
+          (option_and_then (answer_if made) o)) later ≡ Some x
           → IsOfATurn x.1
-      by behind None at is = behind is
-      by behind (Some s) at is = at_node behind s (here_is k s at) (f k s) refl is
+      by behind None is = behind is
+      by behind (Some s) is = at_node behind s (answer_if made s) refl is
 
-  module _ (made : Option Given) (v : Option (ℕ × Wish)) (count : ℕ) (p : Pending)
-      (x : ℕ × Asked) where
-    going : Some x ≡ first_going (only n) count p → IsOfATurn x.1
-    going is = each_asks (λ k. going_on (above_at p k))
-        (λ k s small_me input e. going_asks (above_at p k) s small_me s.claim input e)
-        (in_turn p.next count) x (sym is)
+  -- ---- what it does on its initiative
 
-    by_wish : (k : ℕ) (w : Wish) (o : Option State) → only n k ≡ o
-        → Some x ≡ option_or (option_map (λ (s : State). (k, Does (asked_for w s))) o)
-        (first_going (only n) count p)
-        → IsOfATurn x.1
-    by_wish k w None at is = going is
-    by_wish k w (Some s) at is =
-        let known : ◌≡◌ {A = Chosen} (Some x) (Some (k, Does (asked_for w s))) = is in
-        let same : ◌≡◌ {A = ℕ × Asked} x (k, Does (asked_for w s)) = cc in
-        subst (λ y. IsOfATurn y.1) (sym same) (wish_asks w s (here_is k s at))
+  done_asks : (i : Initiative) (s : State) → s.me ≤ 65535 → (above : Option ℕ) (barred : Barred)
+      (input : Input) → IsDoneBy i s above barred (Some input) → IsOfATurn (Does input)
+  done_asks Own s small_me above barred input is =
+      own_asks s small_me s.claim above barred input is
+  done_asks (Scheduled wish) s small_me above barred input is =
+      scheduled_asks wish above s small_me input (sym is)
 
-    by_left : (u : Option (ℕ × Wish))
-        → Some x ≡ option_or (wished (only n) u) (first_going (only n) count p) → IsOfATurn x.1
-    by_left None is = going is
-    by_left (Some (k, w)) is = by_wish k w (only n k) refl is
+  dones_ask : (count : ℕ) (p : Pending) (who : Who) (ks : List ℕ) (x : ℕ × Asked)
+      → IsFirstDone (only n) count p who ks (Some x) → IsOfATurn x.1
+  dones_ask count p who [] x is =
+      absurd (let no : ◌≡◌ {A = Chosen} (Some x) None = is in cc)
+  dones_ask count p who (k ∷ ks) x (None, done, later) = dones_ask count p who ks x later
+  dones_ask count p who (k ∷ ks) x (Some input, done, is) =
+      let known : ◌≡◌ {A = Chosen} (Some x) (Some (k, Does input)) = is in
+      let same : ◌≡◌ {A = ℕ × Asked} x (k, Does input) = cc in
+      subst (λ y. IsOfATurn y.1) (sym same) (by (only n k) refl done)
+    where
+      by : (o : Option State) → only n k ≡ o → IsDoneIf (only n) count p who k o (Some input)
+          → IsOfATurn (Does input)
+      by None at done =
+          absurd (let no : ◌≡◌ {A = Option Input} (Some input) None = done in cc)
+      by (Some s) at done = done_asks (who k) s (here_is k s at) (above_at p k)
+          (barred_at (only n) count p k) input done
 
-    comes_here : (d : ℕ × List ℕ) (o : Option State)
-        → Some x ≡ option_or (option_map (λ (s : State). (d.0, Comes d.1)) o)
-        (left_to_do (only n) count p v)
-        → IsOfATurn x.1
-    comes_here d None is = by_left v is
-    comes_here d (Some s) is =
-        let known : ◌≡◌ {A = Chosen} (Some x) (Some (d.0, Comes d.1)) = is in
-        let same : ◌≡◌ {A = ℕ × Asked} x (d.0, Comes d.1) = cc in
-        subst (λ y. IsOfATurn y.1) (sym same) tt
+  -- ---- the choice
 
-    comes_in : (came : Arrived)
-        → Some x ≡ option_or (comes_to (only n) came) (left_to_do (only n) count p v)
-        → IsOfATurn x.1
-    comes_in None is = by_left v is
-    comes_in (Some d) is = comes_here d (only n d.0) is
+  pub chosen_asks : (count : ℕ) (p : Pending) (handed : Handed) (came : Arrived) (x : ℕ × Asked)
+      → IsChoiceBy handed (only n) count p came (Some x) → IsOfATurn x.1
+  chosen_asks count p handed came x is = by_answer answer refl is
+    where
+      answer : Chosen
+      answer = first_answer (only n) count (λ k. handed.made)
 
-    answers : (came : Arrived) (o : Chosen) → first_answer (only n) count (λ k. made) ≡ o
-        → Some x ≡ option_or o (option_or (comes_to (only n) came) (left_to_do (only n) count p v))
-        → IsOfATurn x.1
-    answers came None none is = comes_in came is
-    answers came (Some y) some is =
-        let known : ◌≡◌ {A = Chosen} (Some x) (Some y) = is in
-        let same : x ≡ y = cc in
-        each_asks (λ k. answer_if made) (λ k s small_me input e. made_asks made s input e)
-        (range_with_len 0 count) x
-        (subst (λ z. first_answer (only n) count (λ k. made) ≡ Some z) (sym same) some)
+      IsDoneHere : Type 0
+      IsDoneHere = IsFirstDone (only n) count p (λ k. handed.initiative)
+          (in_turn p.next count) (Some x)
 
-  pub chosen_asks : (count : ℕ) (p : Pending) (handed : Handed) (me : ℕ) (came : Arrived)
-      (x : ℕ × Asked) → IsChoiceBy handed (only n) count p me came (Some x) → IsOfATurn x.1
-  chosen_asks count p (AllBuilds builds) me came x is = choice_asks count p builds came x is
-  chosen_asks count p (SoFar made wish) me came x is =
-      answers made (option_map (λ w. (me, w)) wish) count p x came
-      (first_answer (only n) count (λ k. made)) refl is
+      dones : IsDoneHere → IsOfATurn x.1
+      dones = dones_ask count p (λ k. handed.initiative) (in_turn p.next count) x
+
+      by_here : (d : ℕ × List ℕ) (o : Option State)
+          → IsGivenOr (option_map (λ (s : State). (d.0, Comes d.1)) o) (Some x) IsDoneHere
+          → IsOfATurn x.1
+      by_here d None is = dones is
+      by_here d (Some s) is =
+          let known : ◌≡◌ {A = Chosen} (Some x) (Some (d.0, Comes d.1)) = is in
+          let same : ◌≡◌ {A = ℕ × Asked} x (d.0, Comes d.1) = cc in
+          subst (λ y. IsOfATurn y.1) (sym same) tt
+
+      by_came : (came : Arrived) → IsGivenOr (comes_to (only n) came) (Some x) IsDoneHere
+          → IsOfATurn x.1
+      by_came None is = dones is
+      by_came (Some d) is = by_here d (only n d.0) is
+
+      by_answer : (o : Chosen) → answer ≡ o
+          → IsGivenOr (option_or o (comes_to (only n) came)) (Some x) IsDoneHere
+          → IsOfATurn x.1
+      by_answer None none is = by_came came is
+      by_answer (Some y) some is =
+          let known : ◌≡◌ {A = Chosen} (Some x) (Some y) = is in
+          let same : x ≡ y = cc in
+          answers_ask handed.made (range_with_len 0 count) x
+          (subst (λ z. answer ≡ Some z) (sym same) some)
 
 -- a member's number is small
 pub number_is_small : (n : NodeState) → IsMember n.member → n.member.me ≤ 65535

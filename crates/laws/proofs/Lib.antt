@@ -1,8 +1,10 @@
 mod Asking
 mod Becoming
+mod BuildPrograms
 mod Claimed
 mod Claiming
 mod Events
+mod HeardTurns
 mod Holding
 mod Lists
 mod Mirrored
@@ -11,6 +13,9 @@ mod Moving
 mod OnHosts
 mod Ordered
 mod Places
+mod ProgramRuns
+mod ProgramTurns
+mod ProgramWorlds
 mod Reopened
 mod Running
 mod Showing

@@ -1,13 +1,13 @@
 -- A turn is one of the things that may happen to hosts.
 use Rattle.std.proofs.Common.{◌≡◌, ◌≢◌, ◌++◌, ℕ, List, [], Option, None, Some, Result, Ok, Err, slice_get, slice_set, refl, sym, ap, subst, ◌∙◌, inl, inr, ⊎_elim}
+use Rattle.std.specs.Prelude.{Contains}
 use Rattle.turn_rules.specs.Acts.{asked_by}
 use Rattle.turn_rules.specs.declared.act.Act.{Act}
-use Rattle.turn_rules.specs.declared.fault.TurnFault.{TurnFault}
 use Rattle.turn_rules.specs.declared.fault.TurnFault.TheVariants as refused
 use Rattle.faults.specs.Bytes.{Text}
 use Rattle.laws.proofs.Turning.{asks_so, taken_so}
 use Rattle.laws.specs.Hosts.{Down, Host, Hosts, IsLeft, Up, WasOffered, sends_of}
-use Rattle.laws.specs.OnHosts.{HasOffered, HearsOffered, IsAfterTurn, TurnsAreOfARun, VouchedTurnsAreOfARun, VouchesForOffered, host_after}
+use Rattle.laws.specs.OnHosts.{HasOffered, IsAfterTurn, ReceivedOffered, TookOffered, TurnsAreOfARun, VouchedTurnsAreOfARun, host_after}
 use Rattle.laws.specs.Run as run
 use Rattle.laws.specs.Run.{Run}
 use Rattle.laws.specs.Turns.{IsStepTaken}
@@ -15,12 +15,12 @@ use Rattle.listing.specs.Tree.{Tree}
 use Rattle.node.specs.Calls.{left_by}
 use Rattle.node.specs.OnLog.{IsLogged}
 use Rattle.node.specs.State.{LoggedNode, NodeState}
-use Rattle.node.specs.Step.{Asked, Comes, Does, Takes, after}
+use Rattle.node.specs.Step.{Asked, Comes, Does, after}
 use Rattle.node.specs.declared.fault.NodeFault.{NodeFault}
 use Rattle.datagram_ports.specs.Calls.{Call}
 use Rattle.datagram_ports.specs.Kept.{Arrived, Parcel}
 use Rattle.lone_node.proofs.Coming.{choice_heard}
-use Rattle.lone_node.specs.Faults.{IsTurnFault}
+use Rattle.lone_node.specs.Faults.{RefusesChoice}
 use Rattle.lone_node.specs.Handed.{Handed}
 use Rattle.lone_node.specs.State.{SoloState, me_of}
 use Rattle.lone_node.specs.Turn.{IsChosen, IsHeard, LeavesAtMost}
@@ -34,8 +34,7 @@ module _ {D P : Type 0} (is_kept : D → Type 0) (history : D → History) (fail
     (weights : List ℕ) (first h : Hosts) (k : ℕ) (handed : Handed) (old new : SoloState D P)
     (left : List Text) (before : Run tree weights first h)
     (up : slice_get h.hosts k ≡ Some (Up old.node.node))
-    (is_left : IsLeft h.offered old.node.node left) (logged : IsLogged old.node)
-    (hears : HearsOffered given does vouches handed h.offered old new) where
+    (is_left : IsLeft h.offered old.node.node left) (logged : IsLogged old.node) where
   -- what has to be shown of an answer
   abbrev Goes : Outcome → Type 0
   Goes answer = (g : Hosts) × Run tree weights first g × IsAfterTurn h g k old new left answer
@@ -71,11 +70,10 @@ module _ {D P : Type 0} (is_kept : D → Type 0) (history : D → History) (fail
   )
 
   -- the node took its step
-  took : (act : Act) (parcels : List Parcel)
-      → IsChosen given does vouches old new handed parcels (Some (me_of old, asked_by act))
+  took : (act : Act) → WasOffered h.offered (asked_by act)
       → IsStepTaken offered old new (asked_by act) → Goes (Ok (Some act))
-  took act parcels chosen s =
-      let step = s.step h.offered (hears (asked_by act) parcels chosen) in
+  took act came s =
+      let step = s.step h.offered came in
       becomes (Ok (Some act)) (Up (after old.node.node s.taken)) (ap Up (sym s.node))
       (h.offered ++ sends_of s.taken) (s.taken, step.takes, refl)
       (run.turned h (with_host (Up (after old.node.node s.taken)) (h.offered ++ sends_of s.taken))
@@ -91,11 +89,10 @@ module _ {D P : Type 0} (is_kept : D → Type 0) (history : D → History) (fail
       }))
 
   -- or it was refused
-  by_fault : (f : TurnFault)
-      → IsTurnFault given does vouches old new handed (LeavesAtMost is_kept history old new) f
-      → Goes (Err f)
-  by_fault refused.Memory (chosen, is_chosen, same) = stays (Err refused.Memory) refl refl same
-  by_fault (refused.Node f) (asked, is_chosen, r) = ⊎_elim
+  refused_so : (f : NodeFault)
+      → (r : RefusesChoice given does vouches old new handed f) → WasOffered h.offered r.0
+      → Goes (Err (refused.Node f))
+  refused_so f (asked, is_chosen, r) came = ⊎_elim
       (λ takes. becomes (Err (refused.Node f)) (Up (left_by old.node.node asked f))
       (ap Up (sym r.leaves)) h.offered refl
       (run.refused h (with_host (Up (left_by old.node.node asked f)) h.offered) before (record {
@@ -106,7 +103,7 @@ module _ {D P : Type 0} (is_kept : D → Type 0) (history : D → History) (fail
         fault = f;
         asks = asks_so given offered does vouches handed (LeavesAtMost is_kept history old new) old
             new logged asked [] is_chosen;
-        came = hears asked [] is_chosen;
+        came = came;
         refuses = takes;
         hosts = refl;
         offered = refl;
@@ -114,7 +111,10 @@ module _ {D P : Type 0} (is_kept : D → Type 0) (history : D → History) (fail
       (λ full. stays (Err (refused.Node f)) refl refl
       (r.leaves ∙ ap (left_by old.node.node asked) full.0))
       r.cause
-  by_fault (refused.Down j) down =
+
+  -- or its device failed
+  went_down : (j : ℕ) → Goes (Err (refused.Down j))
+  went_down j =
       becomes (Err (refused.Down j)) (Down left) refl h.offered refl
       (run.ended h (with_host (Down left) h.offered) before (record {
         number = k;
@@ -125,37 +125,71 @@ module _ {D P : Type 0} (is_kept : D → Type 0) (history : D → History) (fail
         hosts = refl;
         offered = refl;
       }))
-  by_fault refused.NotSent bad = absurd bad
-  by_fault refused.NotFresh bad = absurd bad
 
   pub goes_on : (answer : Outcome)
-      → IsTurn is_kept history failures_of given offered does vouches handed old new answer
+      → (turn : IsTurn is_kept history failures_of given offered does vouches handed old new answer)
+      → TookOffered is_kept history failures_of given offered does vouches handed old new answer
+      turn h.offered
       → Goes answer
-  goes_on (Ok (Some act)) t = took act _ (t.done.taken).chosen
+  goes_on (Ok (Some act)) t came = took act came
       (taken_so given offered does vouches handed (LeavesAtMost is_kept history old new) old new
       logged (Ok (Some act)) t.done.taken)
-  goes_on (Ok None) t = stays (Ok None) refl refl (ap (λ (n : LoggedNode D). n.node) (t.done.same).0)
-  goes_on (Err f) t = by_fault f t.refuses.refused
+  goes_on (Ok None) t came =
+      stays (Ok None) refl refl (ap (λ (n : LoggedNode D). n.node) (t.done.same).0)
+  goes_on (Err refused.Memory) t came =
+      stays (Err refused.Memory) refl refl (t.refuses.refused).2
+  goes_on (Err (refused.Node f)) t came = refused_so f t.refuses.refused came
+  goes_on (Err (refused.Down j)) t came = went_down j
+  goes_on (Err refused.NotSent) t came = absurd t.refuses.refused
+  goes_on (Err refused.NotFresh) t came = absurd t.refuses.refused
 
 module _ {D P : Type 0} (is_kept : D → Type 0) (history : D → History) (failures_of : D → ℕ)
     (given : P → Option (List Arrived)) (offered : P → Option (List Parcel))
     (does : P → Call → P → Type 0) (vouches : P → Text → Type 0) where
   pub turns_are_of_a_run :
       TurnsAreOfARun is_kept history failures_of given offered does vouches
-  turns_are_of_a_run tree weights first h k handed old new left answer before up is_left turn hears =
+  turns_are_of_a_run tree weights first h k handed old new left answer before up is_left turn came =
       goes_on is_kept history failures_of given offered does vouches tree weights first h k
-      handed old new left before up is_left turn.log.logged hears answer turn
+      handed old new left before up is_left turn.log.logged answer turn came
+
+  -- all that the port vouches for is among these
+  abbrev AllAmong : P → List Text → Type 0
+  AllAmong port texts = (text : Text) → vouches port text → Contains texts text
 
   -- bytes that arrived were vouched for, so they were offered
-  was_offered : (texts : List Text) (port : P) → VouchesForOffered vouches port texts
+  was_offered : (texts : List Text) (port : P) → AllAmong port texts
       → (asked : Asked) → IsHeard vouches port asked → WasOffered texts asked
   was_offered texts port all (Comes text) heard = all text heard
   was_offered texts port all (Does input) heard = tt
+
+  module _ (handed : Handed) (old new : SoloState D P) (texts : List Text) where
+    chosen_offered : (asked : Asked) (parcels : List Parcel)
+        → (c : IsChosen given does vouches old new handed parcels (Some (me_of old, asked)))
+        → AllAmong c.between texts → WasOffered texts asked
+    chosen_offered asked parcels c all = was_offered texts c.between all asked
+        (choice_heard given does vouches old new handed parcels (Some (me_of old, asked)) c asked refl)
+
+    -- so it is of what the turn took
+    took_offered : (answer : Outcome)
+        → (turn : IsTurn is_kept history failures_of given offered does vouches handed old new answer)
+        → ReceivedOffered is_kept history failures_of given offered does vouches handed old new answer
+        turn texts
+        → TookOffered is_kept history failures_of given offered does vouches handed old new answer
+        turn texts
+    took_offered (Ok (Some act)) turn all =
+        chosen_offered (asked_by act) _ (turn.done.taken).chosen all
+    took_offered (Ok None) turn all = tt
+    took_offered (Err refused.Memory) turn all = tt
+    took_offered (Err (refused.Node f)) turn all =
+        chosen_offered (turn.refuses.refused).0 [] (turn.refuses.refused).1 all
+    took_offered (Err (refused.Down k)) turn all =
+        chosen_offered (turn.refuses.refused).0 [] (turn.refuses.refused).1 all
+    took_offered (Err refused.NotSent) turn all = tt
+    took_offered (Err refused.NotFresh) turn all = tt
 
   pub vouched_turns_are_of_a_run :
       VouchedTurnsAreOfARun is_kept history failures_of given offered does vouches
   vouched_turns_are_of_a_run tree weights first h k handed old new left answer before up is_left turn
       all =
       turns_are_of_a_run tree weights first h k handed old new left answer before up is_left turn
-      (λ asked parcels chosen. was_offered h.offered new.port all asked
-      (choice_heard given does vouches old new handed parcels asked chosen))
+      (took_offered handed old new h.offered answer turn all)

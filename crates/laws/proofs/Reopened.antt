@@ -1,5 +1,5 @@
 -- What a crash during a turn leaves, and what it is opened as.
-use Rattle.std.proofs.Common.{◌≡◌, ◌++◌, ◌⊎◌, ℕ, List, [], ◌∷◌, Option, None, Some, Result, Ok, Err, IfErr, IfOk, length, sym, ap, subst, ◌∙◌, arith, length-append, inl, inr, ⊎_elim}
+use Rattle.std.proofs.Common.{◌≡◌, ◌++◌, ◌⊎◌, ℕ, List, [], ◌∷◌, Option, None, Some, Result, Ok, Err, IfErr, IfOk, length, refl, sym, ap, subst, ◌∙◌, arith, length-append, inl, inr, ⊎_elim}
 use Rattle.std.specs.Prelude.{IfNone, IfSome, MatchResult}
 use Rattle.std.proofs.lemmas.List.{map-append}
 use Rattle.ballots.specs.declared.message.Note.{Note}
@@ -9,8 +9,9 @@ use Rattle.turn_rules.specs.declared.fault.TurnFault.{TurnFault}
 use Rattle.turn_rules.specs.declared.fault.TurnFault.TheVariants as refused
 use Rattle.faults.specs.Bytes.{Text}
 use Rattle.laws.proofs.Turning.{asks_so, has_room}
-use Rattle.laws.specs.Hosts.{IsOfATurn, TakesStep, WasOffered}
-use Rattle.laws.specs.Reopening.{IsLeftInTurn, MayBeLeft}
+use Rattle.laws.specs.Hosts.{IsLeft, IsOfATurn, TakesStep, WasOffered}
+use Rattle.laws.specs.OnHosts.{TookOffered}
+use Rattle.laws.specs.Reopening.{IsLeftInTurn, MayBeLeft, TurnsLeaveLogs}
 use Rattle.listing.specs.Tree.{Tree}
 use Rattle.node.proofs.OneStep.{one_step}
 use Rattle.node.specs.Calls.{IsOpened, LeavesItsNoteAtMost}
@@ -21,10 +22,11 @@ use Rattle.node.specs.declared.fault.NodeFault.{NodeFault}
 use Rattle.datagram_ports.specs.Calls.{Call}
 use Rattle.datagram_ports.specs.Kept.{Arrived, Parcel}
 use Rattle.protocol.specs.State.{Value}
-use Rattle.lone_node.specs.Faults.{IsTurnFault}
+use Rattle.lone_node.specs.Faults.{GoesDown, IsTurnFault}
 use Rattle.lone_node.specs.Handed.{Handed}
 use Rattle.lone_node.specs.State.{SoloState}
 use Rattle.lone_node.specs.Turn.{HasTaken, IsUntouched, LeavesAtMost}
+use Rattle.lone_node.specs.Turns.{IsTurn, Outcome}
 use Rattle.stable_record.specs.Crash.{AllAlong, Leaves, MayLeave, and_then, at_first}
 use Rattle.stable_record.specs.History.{History}
 use Rattle.stable_record.specs.Log.{HasBeforeOrAfter, HasNotes}
@@ -35,7 +37,7 @@ use Rattle.wire.specs.Spelling.{note_text}
 -- ---- moments
 
 -- if nothing was called, there is only one moment
-one_moment : (old rest moment since : History) → old ≡ rest ++ moment → moment ≡ since ++ old
+pub one_moment : (old rest moment since : History) → old ≡ rest ++ moment → moment ≡ since ++ old
     → moment ≡ old
 one_moment old rest moment since before behind = by since behind
   where
@@ -61,6 +63,11 @@ at_moment P old _ (and_then call h along leaves) (c ∷ cs) moment since before 
     let rest : h ≡ cs ++ moment = cc in
     at_moment P old h along cs moment since rest behind
 
+-- what holds all along holds of what a crash leaves at the end
+at_end : (P : Text → Type 0) (old new : History) → AllAlong P old new → Leaves P new
+at_end P old _ (at_first leaves) = leaves
+at_end P old _ (and_then call h along leaves) = leaves
+
 -- ---- one node
 
 module _ {D : Type 0} (history : D → History) (n : LoggedNode D) (on : IsOnLog history n) where
@@ -68,7 +75,7 @@ module _ {D : Type 0} (history : D → History) (n : LoggedNode D) (on : IsOnLog
   own = identity_of n.node.member
 
   -- if nothing was called, a crash leaves the notes that are on the log
-  notes_stay : (file : Text) → MayLeave (history n.log.disk) file
+  pub notes_stay : (file : Text) → MayLeave (history n.log.disk) file
       → HasNotes own (texts_of n.node.notes) file
   notes_stay file may =
       let settled = on.holds.settled in
@@ -101,6 +108,19 @@ module _ {D : Type 0} (history : D → History) (n : LoggedNode D) (on : IsOnLog
       (at_moment (HasBeforeOrAfter own (texts_of n.node.notes) (note_text note))
       (history n.log.disk) new along gone.rest gone.moment gone.since gone.before gone.behind file
       gone.may)
+
+  -- and so does a crash afterwards
+  pub note_then : (note : Option (Note Value)) (new : History) (file : Text)
+      → LeavesOneMoreAtMost n.node note (history n.log.disk) new → MayLeave new file
+      → HasNotes own (texts_of n.node.notes) file
+      ⊎ HasNotes own (texts_of (with_note n.node.notes note)) file
+  note_then None new file same may =
+      inl (notes_stay file (subst (λ (h : History). MayLeave h file) same may))
+  note_then (Some note) new file along may = ⊎_elim (λ has. inl has)
+      (λ has. inr (subst (λ (l : List Text). HasNotes own l file)
+      (sym (map-append note_text n.node.notes (note ∷ []))) has))
+      (at_end (HasBeforeOrAfter own (texts_of n.node.notes) (note_text note)) (history n.log.disk)
+      new along file may)
 
 -- a file with these notes is opened as a node that has them
 opened_with : (tree : Tree) (weights : List ℕ) (me : ℕ) (own : Identity) (file : Text)
@@ -219,3 +239,138 @@ pub identity_opened : (tree : Tree) (weights : List ℕ) (me : ℕ) (n : NodeSta
 identity_opened tree weights me n opened =
     ap (λ (x : NodeState). identity_of x.member) opened.node
     ∙ ap (λ (t : Tree). identity t weights me) opened.of_tree
+
+-- So it is of each turn.
+module _ {D P : Type 0} (is_kept : D → Type 0) (history : D → History) (failures_of : D → ℕ)
+    (given : P → Option (List Arrived)) (offered : P → Option (List Parcel))
+    (does : P → Call → P → Type 0) (vouches : P → Text → Type 0) where
+  pub turns_leave_logs : TurnsLeaveLogs is_kept history failures_of given offered does vouches
+  turns_leave_logs tree weights me handed old new answer file again turn leaves opened opens =
+      opened_again is_kept history given offered does vouches handed old new turn.log.logged
+      leaves.on_log leaves.kept answer turn.done.taken turn.log.any_moment turn.refuses.refused
+      turn.log.untouched tree weights me leaves.own leaves.one_answer file leaves.left again opened
+      (subst (λ (i : Identity). Opens i file (Ok (texts_of again.notes)))
+      (sym (identity_opened tree weights me again opened)) opens)
+
+-- ---- a turn of which it is known that what it took was offered
+
+module _ {D P : Type 0} (is_kept : D → Type 0) (history : D → History) (failures_of : D → ℕ)
+    (given : P → Option (List Arrived)) (offered : P → Option (List Parcel))
+    (does : P → Call → P → Type 0) (vouches : P → Text → Type 0) (handed : Handed)
+    (old new : SoloState D P) (on : IsOnLog history old.node) (kept : is_kept new.node.log.disk)
+    (before : List Text) where
+  -- Nothing was done to the log, or the note of a step that the node takes was written.
+  abbrev HasWrittenOne : Type 0
+  HasWrittenOne =
+      (history new.node.log.disk ≡ history old.node.log.disk)
+      ⊎ ((asked : Asked) × (t : Taken) × TakesStep before old.node.node asked t
+      × LeavesOneMoreAtMost old.node.node t.answer.note (history old.node.log.disk)
+      (history new.node.log.disk))
+
+  step_of : (asked : Asked) → WasOffered before asked → IsOfATurn asked → (t : Taken)
+      → Takes old.node.node asked (Ok t) → ¬ IsFull old.node.node t.answer.note
+      → LeavesItsNoteAtMost old.node.node asked (history old.node.log.disk)
+      (history new.node.log.disk)
+      → HasWrittenOne
+  step_of asked came asks t takes room (inl same) = inl same
+  step_of asked came asks t takes room (inr (u, other, most)) =
+      let two : ◌≡◌ {A = Result Taken NodeFault} (Ok u) (Ok t) =
+      one_step old.node.node asked (Ok u) (Ok t) other takes in
+      let same : u ≡ t = cc in
+      inr (
+        asked,
+        t,
+        record { asks = asks; came = came; takes = takes; room = room },
+        subst (λ (x : Taken). LeavesOneMoreAtMost old.node.node x.answer.note
+            (history old.node.log.disk) (history new.node.log.disk)) same most,
+      )
+
+  down_one : (logged : IsLogged old.node) (k : ℕ)
+      → (g : GoesDown given does vouches old new handed (LeavesAtMost is_kept history old new) k)
+      → WasOffered before g.0 → HasWrittenOne
+  down_one logged k (asked, is_chosen, me, tried, down, leaves) came =
+      step_of asked came
+      (asks_so given offered does vouches handed (LeavesAtMost is_kept history old new) old new
+      logged asked [] is_chosen) tried.step tried.takes
+      (has_room given offered does vouches handed (LeavesAtMost is_kept history old new) old new logged
+      tried.step.answer.note tried.room)
+      (leaves kept on)
+
+  same_but : (f : TurnFault) → ((k : ℕ) → f ≡ refused.Down k → ⊥)
+      → ((k : ℕ) × (f ≡ refused.Down k)) ⊎ IsUntouched is_kept history old new → HasWrittenOne
+  same_but f other (inl (k, is)) = absurd (other k is)
+  same_but f other (inr same) = inl (same kept (λ up. on))
+
+  written_one : (answer : Outcome)
+      → (turn : IsTurn is_kept history failures_of given offered does vouches handed old new answer)
+      → TookOffered is_kept history failures_of given offered does vouches handed old new answer
+      turn before
+      → HasWrittenOne
+  written_one (Ok (Some act)) turn came =
+      step_of (asked_by act) came
+      (asks_so given offered does vouches handed (LeavesAtMost is_kept history old new) old new
+      turn.log.logged (asked_by act) _ (turn.done.taken).chosen) (turn.done.taken).taken
+      (turn.done.taken).takes (turn.done.taken).room (turn.log.any_moment kept on)
+  written_one (Ok None) turn came = inl (turn.log.untouched kept (λ up. on))
+  written_one (Err refused.Memory) turn came = same_but refused.Memory
+      (λ k e. let no : ◌≡◌ {A = TurnFault} refused.Memory (refused.Down k) = e in cc)
+      turn.log.untouched
+  written_one (Err (refused.Node f)) turn came = same_but (refused.Node f)
+      (λ k e. let no : ◌≡◌ {A = TurnFault} (refused.Node f) (refused.Down k) = e in cc)
+      turn.log.untouched
+  written_one (Err (refused.Down k)) turn came =
+      down_one turn.log.logged k turn.refuses.refused came
+  written_one (Err refused.NotSent) turn came = absurd turn.refuses.refused
+  written_one (Err refused.NotFresh) turn came = absurd turn.refuses.refused
+
+  -- such notes as a node that ends leaves
+  abbrev pub HasLeft : Text → Type 0
+  HasLeft file = (ts : List Text) × HasNotes (identity_of old.node.node.member) ts file
+      × IsLeft before old.node.node ts
+
+  left_by_step : (asked : Asked) (t : Taken) → TakesStep before old.node.node asked t
+      → (file : Text)
+      → HasNotes (identity_of old.node.node.member) (texts_of old.node.node.notes) file
+      ⊎ HasNotes (identity_of old.node.node.member)
+      (texts_of (with_note old.node.node.notes t.answer.note)) file
+      → HasLeft file
+  left_by_step asked t step file (inl has) = (texts_of old.node.node.notes, has, inl refl)
+  left_by_step asked t step file (inr has) =
+      (texts_of (with_note old.node.node.notes t.answer.note), has, inr (asked, t, step, refl))
+
+  -- a crash in the turn leaves such notes
+  in_turn : HasWrittenOne → (file : Text)
+      → MayBeLeft (history old.node.log.disk) (history new.node.log.disk) file → HasLeft file
+  in_turn (inl same) file gone = (
+    texts_of old.node.node.notes,
+    stays_at history old.node on (history new.node.log.disk) file same gone,
+    inl refl,
+  )
+  in_turn (inr (asked, t, step, most)) file gone = left_by_step asked t step file
+      (note_at history old.node on t.answer.note (history new.node.log.disk) file most gone)
+
+  -- and so does one after it
+  after_turn : HasWrittenOne → (file : Text) → MayLeave (history new.node.log.disk) file
+      → HasLeft file
+  after_turn (inl same) file may = (
+    texts_of old.node.node.notes,
+    notes_stay history old.node on file (subst (λ (h : History). MayLeave h file) same may),
+    inl refl,
+  )
+  after_turn (inr (asked, t, step, most)) file may = left_by_step asked t step file
+      (note_then history old.node on t.answer.note (history new.node.log.disk) file most may)
+
+  pub left_in_turn : (answer : Outcome)
+      → (turn : IsTurn is_kept history failures_of given offered does vouches handed old new answer)
+      → TookOffered is_kept history failures_of given offered does vouches handed old new answer
+      turn before
+      → (file : Text) → MayBeLeft (history old.node.log.disk) (history new.node.log.disk) file
+      → HasLeft file
+  left_in_turn answer turn came = in_turn (written_one answer turn came)
+
+  pub left_after_turn : (answer : Outcome)
+      → (turn : IsTurn is_kept history failures_of given offered does vouches handed old new answer)
+      → TookOffered is_kept history failures_of given offered does vouches handed old new answer
+      turn before
+      → (file : Text) → MayLeave (history new.node.log.disk) file → HasLeft file
+  left_after_turn answer turn came = after_turn (written_one answer turn came)

@@ -25,7 +25,8 @@ says_stopped n asked r down takes =
     takes.right_is
     ∙ ap (λ b. if b then Err fault.Stopped else running_step n.member n.pieces takes.letter asked) down
 
-no_step : (n : NodeState) (asked : Asked) (t : Taken) → n.stopped ≡ true → Takes n asked (Ok t) → ⊥
+-- so it takes no step
+pub no_step : (n : NodeState) (asked : Asked) (t : Taken) → n.stopped ≡ true → Takes n asked (Ok t) → ⊥
 no_step n asked t down takes = absurd (let e : Ok t ≡ Err fault.Stopped = says_stopped n asked (Ok t) down takes in cc)
 
 stays_so : (n : NodeState) (asked : Asked) (f : NodeFault) → n.stopped ≡ true → Takes n asked (Err f) → left_by n asked f ≡ n

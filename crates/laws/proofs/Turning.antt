@@ -32,7 +32,7 @@ module _ {D P : Type 0} (given : P → Option (List Arrived)) (offered : P → O
       → IsOfATurn asked
   asks_so asked parcels c =
       chosen_asks old.node.node (number_is_small old.node.node logged.node.member) _ old.pending
-      handed (me_of old) (came_by c.answer) (me_of old, asked) c.choice
+      handed (came_by c.answer) (me_of old, asked) c.choice
 
   -- if a turn answers what the node did, the node took that step
   pub taken_so : (r : Result (Option Act) TurnFault)

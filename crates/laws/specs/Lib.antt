@@ -1,7 +1,11 @@
+pub mod BuildPrograms
 pub mod Hosts
 pub mod Laws
 pub mod Missing
 pub mod OnHosts
+pub mod ProgramLaws
+pub mod Programs
+pub mod Recorded
 pub mod Reopening
 pub mod Run
 pub mod Turns

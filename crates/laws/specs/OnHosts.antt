@@ -1,5 +1,5 @@
--- Laws: turns of crate `solo` are among the things that may happen to hosts.
-use Rattle.std.specs.Prelude.{◌≡◌, ◌≢◌, ◌++◌, ℕ, true, List, [], Option, None, Some, Ok, Err, Contains, IfOk, slice_get}
+-- Laws: turns of a lone node are among the things that may happen to hosts.
+use Rattle.std.specs.Prelude.{◌≡◌, ◌≢◌, ◌++◌, ⊤, ℕ, true, List, [], Option, None, Some, Ok, Err, Contains, IfOk, slice_get}
 use Rattle.turn_rules.specs.Acts.{asked_by}
 use Rattle.turn_rules.specs.Choice.{Chosen}
 use Rattle.turn_rules.specs.declared.fault.TurnFault.TheVariants as refused
@@ -7,27 +7,51 @@ use Rattle.faults.specs.Bytes.{Text}
 use Rattle.laws.specs.Hosts.{Down, Host, Hosts, IsLeft, Up, WasOffered, sends_of}
 use Rattle.laws.specs.Run.{Run}
 use Rattle.listing.specs.Tree.{Tree}
-use Rattle.node.specs.Step.{Asked, Taken, Takes}
+use Rattle.node.specs.Step.{Taken, Takes}
 use Rattle.datagram_ports.specs.Calls.{Call}
 use Rattle.datagram_ports.specs.Kept.{Arrived, Parcel}
 use Rattle.lone_node.specs.Handed.{Handed}
-use Rattle.lone_node.specs.State.{SoloState, me_of}
+use Rattle.lone_node.specs.State.{SoloState}
 use Rattle.lone_node.specs.Turn.{IsChosen}
 use Rattle.lone_node.specs.Turns.{IsTurn, Outcome}
 use Rattle.stable_record.specs.History.{History}
 
--- If the turn's choice is to take bytes, those bytes were offered before.
-abbrev pub HearsOffered : {D P : Type 0} → (P → Option (List Arrived))
-    → (P → Call → P → Type 0) → (P → Text → Type 0) → Handed → List Text → SoloState D P
-    → SoloState D P → Type 0
-HearsOffered given does vouches handed offered old new =
-    (asked : Asked) (parcels : List Parcel)
-    → IsChosen given does vouches old new handed parcels (Some (me_of old, asked))
-    → WasOffered offered asked
+module _ {D P : Type 0} (is_kept : D → Type 0) (history : D → History) (failures_of : D → ℕ)
+    (given : P → Option (List Arrived)) (offered : P → Option (List Parcel))
+    (does : P → Call → P → Type 0) (vouches : P → Text → Type 0) (handed : Handed)
+    (old new : SoloState D P) where
+  abbrev IsThisTurn : Outcome → Type 0
+  IsThisTurn = IsTurn is_kept history failures_of given offered does vouches handed old new
 
--- All texts that the port vouches for were offered before: they were sent in this run.
-abbrev pub VouchesForOffered : {P : Type 0} → (P → Text → Type 0) → P → List Text → Type 0
-VouchesForOffered vouches port offered = (text : Text) → vouches port text → Contains offered text
+  -- If the turn took bytes, they were offered before. What it took is what it answers that the node
+  -- did, or what the node refused, or what the node was asked when its device failed. A turn that
+  -- found nothing to do, or for which memory ran out, took nothing.
+  abbrev pub TookOffered : (answer : Outcome) → IsThisTurn answer → List Text → Type 0
+  TookOffered (Ok (Some act)) turn before = WasOffered before (asked_by act)
+  TookOffered (Ok None) turn before = ⊤
+  TookOffered (Err refused.Memory) turn before = ⊤
+  TookOffered (Err (refused.Node f)) turn before = WasOffered before (turn.refuses.refused).0
+  TookOffered (Err (refused.Down k)) turn before = WasOffered before (turn.refuses.refused).0
+  TookOffered (Err refused.NotSent) turn before = ⊤
+  TookOffered (Err refused.NotFresh) turn before = ⊤
+
+  -- All texts that the port vouches for were offered before: they were sent in this run.
+  abbrev pub VouchesForOffered : P → List Text → Type 0
+  VouchesForOffered port before = (text : Text) → vouches port text → Contains before text
+
+  -- If the turn took something, all that the port vouched for, as the turn's receive left it, was
+  -- offered before.
+  abbrev pub ReceivedOffered : (answer : Outcome) → IsThisTurn answer → List Text → Type 0
+  ReceivedOffered (Ok (Some act)) turn before =
+      VouchesForOffered ((turn.done.taken).chosen).between before
+  ReceivedOffered (Ok None) turn before = ⊤
+  ReceivedOffered (Err refused.Memory) turn before = ⊤
+  ReceivedOffered (Err (refused.Node f)) turn before =
+      VouchesForOffered ((turn.refuses.refused).1).between before
+  ReceivedOffered (Err (refused.Down k)) turn before =
+      VouchesForOffered ((turn.refuses.refused).1).between before
+  ReceivedOffered (Err refused.NotSent) turn before = ⊤
+  ReceivedOffered (Err refused.NotFresh) turn before = ⊤
 
 -- What runs on the host after a turn with this answer: the node as the turn left it, or nothing if
 -- its device failed. In that case its log has these texts.
@@ -54,9 +78,9 @@ pub record IsAfterTurn {D P : Type 0} (h g : Hosts) (k : ℕ) (old new : SoloSta
   pub others : (j : ℕ) → j ≢ k → slice_get g.hosts j ≡ slice_get h.hosts j
   pub offered : HasOffered old answer h.offered g.offered
 
--- Law: a turn of a running node is one of the things that may happen to hosts, if bytes that it
--- takes were offered before. If its device failed, this holds for whatever a node that ends may
--- leave on its log.
+-- Law: a turn of a running node is one of the things that may happen to hosts, if what it took was
+-- offered before. If its device failed, this holds for whatever a node that ends may leave on its
+-- log.
 abbrev pub TurnsAreOfARun : {D P : Type 0} → (D → Type 0) → (D → History) → (D → ℕ)
     → (P → Option (List Arrived)) → (P → Option (List Parcel)) → (P → Call → P → Type 0)
     → (P → Text → Type 0) → Type 0
@@ -64,11 +88,13 @@ TurnsAreOfARun {D} {P} is_kept history failures_of given offered does vouches =
     (tree : Tree) (weights : List ℕ) (first h : Hosts) (k : ℕ) (handed : Handed)
     (old new : SoloState D P) (left : List Text) (answer : Outcome) → Run tree weights first h
     → slice_get h.hosts k ≡ Some (Up old.node.node) → IsLeft h.offered old.node.node left
-    → IsTurn is_kept history failures_of given offered does vouches handed old new answer
-    → HearsOffered given does vouches handed h.offered old new
+    → (turn : IsTurn is_kept history failures_of given offered does vouches handed old new answer)
+    → TookOffered is_kept history failures_of given offered does vouches handed old new answer
+    turn h.offered
     → (g : Hosts) × Run tree weights first g × IsAfterTurn h g k old new left answer
 
--- Law: this also holds if all texts that the port vouches for were offered before.
+-- Law: this also holds if all that the port vouched for, as the turn's receive left it, was offered
+-- before.
 abbrev pub VouchedTurnsAreOfARun : {D P : Type 0} → (D → Type 0) → (D → History) → (D → ℕ)
     → (P → Option (List Arrived)) → (P → Option (List Parcel)) → (P → Call → P → Type 0)
     → (P → Text → Type 0) → Type 0
@@ -76,8 +102,9 @@ VouchedTurnsAreOfARun {D} {P} is_kept history failures_of given offered does vou
     (tree : Tree) (weights : List ℕ) (first h : Hosts) (k : ℕ) (handed : Handed)
     (old new : SoloState D P) (left : List Text) (answer : Outcome) → Run tree weights first h
     → slice_get h.hosts k ≡ Some (Up old.node.node) → IsLeft h.offered old.node.node left
-    → IsTurn is_kept history failures_of given offered does vouches handed old new answer
-    → VouchesForOffered vouches new.port h.offered
+    → (turn : IsTurn is_kept history failures_of given offered does vouches handed old new answer)
+    → ReceivedOffered is_kept history failures_of given offered does vouches handed old new answer
+    turn h.offered
     → (g : Hosts) × Run tree weights first g × IsAfterTurn h g k old new left answer
 
 -- The turn did nothing: the node took no step and is unchanged, and the port was only asked as for

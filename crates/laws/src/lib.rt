@@ -5,13 +5,23 @@
 #![tactic(auto)]
 
 mod catching_up;
+mod heard;
 mod on_hosts;
 mod one_world;
+mod programs;
+mod recorded;
 mod reopening;
 mod turns;
 
 pub use crate::catching_up::what_is_missing_is_queued;
-pub use crate::on_hosts::{stopped_nodes_stay, turns_are_of_a_run, vouched_turns_are_of_a_run};
+pub use crate::heard::turn_if_heard;
+pub use crate::on_hosts::{
+    stopped_nodes_stay, turns_are_of_a_run, turns_leave_logs, vouched_turns_are_of_a_run,
+};
 pub use crate::one_world::{lone_nodes_hold_alike, lone_nodes_make_a_world};
+pub use crate::programs::{
+    build_turns_are_of_programs, node_turns_are_of_programs, programs_make_a_world,
+};
+pub use crate::recorded::Recorded;
 pub use crate::reopening::{open_turn_open, turn_then_open};
 pub use crate::turns::turn_on_host;

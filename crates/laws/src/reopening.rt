@@ -8,7 +8,7 @@ ghost use Rattle.stable_record.specs.History.{seen};
 use ballots::Weights;
 use datagram_ports::Port;
 use listing::Tree;
-use lone_node::Solo;
+use lone_node::{Initiative, Solo};
 use node::Node;
 use protocol::Packages;
 use stable_record::Disk;
@@ -21,7 +21,8 @@ pub fn open_turn_open<'a, D: Disk, P: Port, E: Disk>(
     alloc: Global,
     disk: D,
     port: P,
-    builds: &Packages,
+    made: Option<&Packages>,
+    initiative: Initiative,
     left: E,
     tree: &'a Tree,
     weights: &Weights,
@@ -35,7 +36,7 @@ pub fn open_turn_open<'a, D: Disk, P: Port, E: Disk>(
         return None;
     };
     let mut solo = Solo::new(node, port);
-    match turn_then_open(alloc, &mut solo, builds, left, tree, weights, me) {
+    match turn_then_open(alloc, &mut solo, made, initiative, left, tree, weights, me) {
         Some(again) => Some((solo, again)),
         None => None,
     }
@@ -47,7 +48,8 @@ pub fn open_turn_open<'a, D: Disk, P: Port, E: Disk>(
 pub fn turn_then_open<'a, D: Disk, P: Port, E: Disk>(
     alloc: Global,
     solo: &mut Solo<'_, D, P>,
-    builds: &Packages,
+    made: Option<&Packages>,
+    initiative: Initiative,
     left: E,
     tree: &'a Tree,
     weights: &Weights,
@@ -64,7 +66,7 @@ pub fn turn_then_open<'a, D: Disk, P: Port, E: Disk>(
     ensures kept { D.is_kept solo.new.node.log.disk → D.is_kept solo.old.node.log.disk }
 {
     let _node = solo.node().member();
-    let _answer = solo.turn(builds);
+    let _answer = solo.turn_with(made, initiative);
     match Node::open(alloc, left, tree, weights, me) {
         Ok(node) => Some(node),
         Err(_refused) => None,

@@ -3,17 +3,16 @@ use Rattle.std.proofs.Common.{◌≡◌, ◌++◌, ℕ, List, [], ◌∷◌, Opt
 use Rattle.std.proofs.lemmas.List.{append-nil}
 use Rattle.std.specs.Prelude.{is_some}
 use Rattle.turn_rules.proofs.SomeOwn.{some_choice}
-use Rattle.turn_rules.specs.Choice.{Chosen, Here, IsChoice, IsFirstOwn, IsGivenOr, comes_to, first_job, in_turn}
+use Rattle.turn_rules.specs.Choice.{Chosen, Here, IsFirstDone, IsGivenOr, Made, Who, comes_to, first_answer, in_turn}
 use Rattle.faults.specs.Answers.{option_or}
 use Rattle.faults.specs.Bytes.{Text}
 use Rattle.node.specs.Step.{Asked}
 use Rattle.turn_rules.specs.Calls.{came_by}
 use Rattle.datagram_ports.specs.Calls.{Call, WentThrough}
 use Rattle.datagram_ports.specs.Kept.{Arrived, GoesOnBy}
-use Rattle.protocol.specs.Given.{Given}
 use Rattle.protocol.specs.Member.{IsMember}
 use Rattle.protocol.specs.State.{State}
-use Rattle.lone_node.specs.Handed.{AllBuilds}
+use Rattle.lone_node.specs.Handed.{Handed, IsChoiceBy}
 use Rattle.lone_node.specs.State.{SoloState, only}
 use Rattle.lone_node.specs.Turn.{IsChosen, IsVouchedFor, looked_for, received_by}
 use Rattle.lone_node.specs.inside.Turning.{HasCome}
@@ -41,21 +40,37 @@ goes_no_more more None (Some ys) (Some zs) goes nothing = absurd goes
 goes_no_more more (Some xs) (Some ys) (Some zs) goes nothing = nothing ∙ append-nil ys ∙ goes
 
 module _ {D P : Type 0} (given : P → Option (List Arrived)) (does : P → Call → P → Type 0)
-    (vouches : P → Text → Type 0) (old new : SoloState D P) (builds : Given) where
+    (vouches : P → Text → Type 0) (old new : SoloState D P) (handed : Handed) where
   abbrev pub here : Here
   here = only old.node.node
 
   abbrev pub count : ℕ
   count = length old.node.node.member.weights
 
+  -- what is made for a node here
+  abbrev pub made : Made
+  made k = handed.made
+
+  -- on whose initiative it does something
+  abbrev pub who : Who
+  who k = handed.initiative
+
+  -- the answer to its job, if its files are made
+  abbrev pub answer_here : Chosen
+  answer_here = first_answer here count made
+
+  -- The choice is what the node here does on its initiative.
+  abbrev pub IsDoneHere : Chosen → Type 0
+  IsDoneHere = IsFirstDone here count old.pending who (in_turn old.pending.next count)
+
   -- It is the choice, and nothing was offered yet.
   abbrev pub Chooses : Chosen → Type 0
-  Chooses = IsChosen given does vouches old new (AllBuilds builds) []
+  Chooses = IsChosen given does vouches old new handed []
 
   -- the answer to a job
-  pub by_job : (x : ℕ × Asked) → first_job here count builds ≡ Some x
-      → new.port ≡ old.port → Chooses (Some x)
-  by_job x job still = record {
+  pub by_answer : (x : ℕ × Asked) → answer_here ≡ Some x → new.port ≡ old.port
+      → Chooses (Some x)
+  by_answer x job still = record {
     answer = Ok None;
     looked = subst (λ b. GoesOnBy (looked_for b None) (given old.port) (given new.port))
         (sym (ap is_some job))
@@ -67,44 +82,41 @@ module _ {D P : Type 0} (given : P → Option (List Arrived)) (does : P → Call
     sent = ([], refl, still);
     vouched = tt;
     choice = subst (λ j. IsGivenOr (option_or j (comes_to here None)) (Some x)
-        (IsFirstOwn here count old.pending (in_turn old.pending.next count) (Some x))) (sym job)
-        refl;
+        (IsDoneHere (Some x))) (sym job) refl;
   }
 
-  module _ (no_job : first_job here count builds ≡ None) (came : Arrived)
+  module _ (no_answer : answer_here ≡ None) (came : Arrived)
       (goes : HasCome given does vouches old.port new.port came) where
     -- the choice if this was received
-    by_came : (c : Chosen) → IsChoice here count old.pending builds came c → Chooses c
+    by_came : (c : Chosen) → IsChoiceBy handed here count old.pending came c → Chooses c
     by_came c choice = record {
       answer = goes.answer;
       looked = subst (λ b. GoesOnBy (looked_for b (came_by goes.answer)) (given old.port)
-          (given new.port)) (sym (ap is_some no_job))
+          (given new.port)) (sym (ap is_some no_answer))
           (subst (λ a. GoesOnBy (a ∷ []) (given old.port) (given new.port)) (sym goes.gave)
           goes.kept);
       between = new.port;
       received = subst (λ b. WentThrough does old.port (received_by b goes.answer) new.port)
-          (sym (ap is_some no_job)) (new.port, goes.call, refl);
+          (sym (ap is_some no_answer)) (new.port, goes.call, refl);
       sent = ([], refl, refl);
       vouched = subst (IsVouchedFor vouches new.port) (sym goes.gave) goes.vouched;
-      choice = subst (λ a. IsChoice here count old.pending builds a c) (sym goes.gave) choice;
+      choice = subst (λ a. IsChoiceBy handed here count old.pending a c) (sym goes.gave) choice;
     }
 
     -- the received datagram is taken
     pub by_arrival : (x : ℕ × Asked) → comes_to here came ≡ Some x → Chooses (Some x)
     by_arrival x comes = by_came (Some x) (subst (λ g. IsGivenOr g (Some x)
-        (IsFirstOwn here count old.pending (in_turn old.pending.next count) (Some x)))
-        (sym (ap (λ j. option_or j (comes_to here came)) no_job ∙ comes)) refl)
+        (IsDoneHere (Some x)))
+        (sym (ap (λ j. option_or j (comes_to here came)) no_answer ∙ comes)) refl)
 
-    -- what the node does on its own initiative
-    pub by_own : (c : Chosen) → comes_to here came ≡ None
-        → IsFirstOwn here count old.pending (in_turn old.pending.next count) c → Chooses c
-    by_own c comes own = by_came c (subst (λ g. IsGivenOr g c
-        (IsFirstOwn here count old.pending (in_turn old.pending.next count) c))
-        (sym (ap (λ j. option_or j (comes_to here came)) no_job ∙ comes)) own)
+    -- what the node does on its initiative
+    pub by_done : (c : Chosen) → comes_to here came ≡ None → IsDoneHere c → Chooses c
+    by_done c comes done = by_came c (subst (λ g. IsGivenOr g c (IsDoneHere c))
+        (sym (ap (λ j. option_or j (comes_to here came)) no_answer ∙ comes)) done)
 
     -- there is a choice
     pub by_some : ((k : ℕ) (s : State) → here k ≡ Some s → IsMember s)
         → (c : Chosen) × Chooses c
     by_some are =
-        let some = some_choice here count old.pending builds came are in
+        let some = some_choice here count old.pending made who came are in
         (some.0, by_came some.0 some.1)

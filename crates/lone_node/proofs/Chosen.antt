@@ -1,9 +1,10 @@
 -- What was chosen is prepared, or there is a reason why it isn't.
 use Rattle.std.proofs.Common.{◌≡◌, ◌≢◌, ◌==◌, ℕ, Bool, true, false, List, [], Option, None, Some, Result, Ok, Err, IfErr, IfOk, Vec, length, if◌then◌else◌, refl, sym, ap, subst, ◌∙◌, inl, inr}
 use Rattle.std.specs.List.{range_with_len}
-use Rattle.std.specs.Prelude.{option_map}
+use Rattle.std.specs.Prelude.{option_and_then, option_map}
 use Rattle.std.specs.declared.alloc.Global.{Global}
-use Rattle.turn_rules.specs.Choice.{Chosen, IsOwnIf, comes_to, first_job, in_turn}
+use Rattle.turn_rules.specs.Answering.{answer_if}
+use Rattle.turn_rules.specs.Choice.{Chosen, IsDoneIf, comes_to, in_turn}
 use Rattle.turn_rules.specs.declared.fault.TurnFault.{TurnFault}
 use Rattle.turn_rules.specs.declared.fault.TurnFault.TheVariants as refused
 use Rattle.faults.specs.Bytes.{Text}
@@ -20,11 +21,12 @@ use Rattle.protocol.specs.Given.{Given}
 use Rattle.protocol.specs.Member.{IsMember}
 use Rattle.protocol.specs.State.{State}
 use Rattle.protocol.specs.declared.input.Input.{Input}
-use Rattle.lone_node.proofs.ByCase.{by_arrival, by_job, by_own, by_some}
-use Rattle.lone_node.proofs.Only.{in_range, in_turns, none_among, none_does, own_answer, some_among, this_one_does}
+use Rattle.lone_node.proofs.ByCase.{answer_here, by_answer, by_arrival, by_done, by_some}
+use Rattle.lone_node.proofs.Each.{none_does_so, this_does_so}
+use Rattle.lone_node.proofs.Only.{in_range, in_turns, none_does, this_one_does}
 use Rattle.lone_node.proofs.Refused.{stays, told_is}
 use Rattle.lone_node.specs.Faults.{IsTurnFault}
-use Rattle.lone_node.specs.Handed.{AllBuilds}
+use Rattle.lone_node.specs.Handed.{Handed}
 use Rattle.lone_node.specs.State.{SoloState, member_up, only}
 use Rattle.lone_node.specs.Turn.{IsChosen}
 use Rattle.lone_node.specs.inside.Turning.{HasChosen, HasCome, IsMade, IsNotTaken, told}
@@ -53,6 +55,10 @@ pub nothing_taken : {D : Type 0} (m : LoggedNode D) (chosen : Chosen) → IsMade
 nothing_taken m None made = refl
 nothing_taken m (Some x) made = absurd made
 
+-- the node's answer to its job, if it is up and its files are made
+abbrev pub its_answer : NodeState → Option Given → Option Input
+its_answer n made = option_and_then (answer_if made) (member_up n)
+
 -- what holds of an unchanged node holds of the node before
 module _ {D : Type 0} (m n : LoggedNode D) (stays : m ≡ n) (new : LoggedNode D)
     (came : Arrived) where
@@ -70,7 +76,7 @@ module _ {D : Type 0} (m n : LoggedNode D) (stays : m ≡ n) (new : LoggedNode D
       (subst (λ x. IsNotTaken x new (comes_to (only x.node) came) f) stays refuses)
 
 module _ {D P : Type 0} (given : P → Option (List Arrived)) (does : P → Call → P → Type 0)
-    (vouches : P → Text → Type 0) (old new : SoloState D P) (builds : Given)
+    (vouches : P → Text → Type 0) (old new : SoloState D P) (handed : Handed)
     (is : IsMember old.node.node.member) where
   abbrev n : NodeState
   n = old.node.node
@@ -82,60 +88,67 @@ module _ {D P : Type 0} (given : P → Option (List Arrived)) (does : P → Call
   count = length n.member.weights
 
   abbrev HasMade : Option CausedStep → Type 0
-  HasMade = HasChosen given does vouches old new (AllBuilds builds)
+  HasMade = HasChosen given does vouches old new handed
 
   abbrev IsFault : TurnFault → Type 0
-  IsFault = IsTurnFault given does vouches old new (AllBuilds builds) (λ asked. ⊥)
+  IsFault = IsTurnFault given does vouches old new handed (λ asked. ⊥)
+
+  -- its answer, if it is up and its files are made
+  abbrev Answer : Option Input
+  Answer = its_answer n handed.made
+
+  -- the first answer
+  abbrev First : Chosen
+  First = answer_here given does vouches old new handed
 
   -- ---- its job
 
-  first_is : (input : Input) → own_answer n builds ≡ Some input
-      → first_job (only n) count builds ≡ Some (me, Does input)
-  first_is input e = some_among n builds input e (range_with_len 0 count)
-      (in_range me count is.one_of_them)
+  first_is : (input : Input) → Answer ≡ Some input → First ≡ Some (me, Does input)
+  first_is input e = this_does_so n (λ k. answer_if handed.made) input e
+      (range_with_len 0 count) (in_range me count is.one_of_them)
 
   pub job_made : new.port ≡ old.port → new.node ≡ old.node → (r : CausedStep)
-      → IsPart old.node (own_answer n builds) (Some r) → HasMade (Some r)
-  job_made still same r part = by (own_answer n builds) refl part
+      → IsPart old.node (Answer) (Some r) → HasMade (Some r)
+  job_made still same r part = by (Answer) refl part
     where
-      by : (o : Option Input) → own_answer n builds ≡ o → IsPart old.node o (Some r)
+      by : (o : Option Input) → Answer ≡ o → IsPart old.node o (Some r)
           → HasMade (Some r)
       by None e part = absurd part
       by (Some input) e part = record {
         chosen = Some (me, Does input);
-        is_chosen = by_job given does vouches old new builds (me, Does input) (first_is input e) still;
+        is_chosen = by_answer given does vouches old new handed (me, Does input) (first_is input e) still;
         made = (refl, part);
         same = same;
       }
 
   pub job_wants : new.port ≡ old.port → new.node.node ≡ old.node.node → (f : TurnFault)
-      → f ≡ refused.Memory → own_answer n builds ≢ None → IsFault f
+      → f ≡ refused.Memory → Answer ≢ None → IsFault f
   job_wants still same f memory some =
-      subst IsFault (sym memory) (by (own_answer n builds) refl)
+      subst IsFault (sym memory) (by (Answer) refl)
     where
-      by : (o : Option Input) → own_answer n builds ≡ o → IsFault refused.Memory
+      by : (o : Option Input) → Answer ≡ o → IsFault refused.Memory
       by None e = absurd (some e)
       by (Some input) e = (
         Some (me, Does input),
-        by_job given does vouches old new builds (me, Does input) (first_is input e) still,
+        by_answer given does vouches old new handed (me, Does input) (first_is input e) still,
         same,
       )
 
   -- no job was answered
-  no_job : IsPart old.node (own_answer n builds) None → first_job (only n) count builds ≡ None
-  no_job part = by (own_answer n builds) refl part
+  no_answer : IsPart old.node Answer None → First ≡ None
+  no_answer part = by Answer refl part
     where
-      by : (o : Option Input) → own_answer n builds ≡ o → IsPart old.node o None
-          → first_job (only n) count builds ≡ None
-      by None e part = none_among n builds e (range_with_len 0 count)
+      by : (o : Option Input) → Answer ≡ o → IsPart old.node o None → First ≡ None
+      by None e part =
+          none_does_so n (λ k. answer_if handed.made) e (range_with_len 0 count)
       by (Some input) e part = absurd part
 
-  module _ (none : IsPart old.node (own_answer n builds) None) (came : Arrived)
+  module _ (none : IsPart old.node (Answer) None) (came : Arrived)
       (goes : HasCome given does vouches old.port new.port came) where
     -- memory ran out, whatever the choice was
     wants : new.node.node ≡ old.node.node → (f : TurnFault) → f ≡ refused.Memory → IsFault f
     wants same f memory =
-        let some = by_some given does vouches old new builds (no_job none) came goes
+        let some = by_some given does vouches old new handed (no_answer none) came goes
         (members_here n is) in
         subst IsFault (sym memory) (some.0, some.1, same)
 
@@ -150,7 +163,7 @@ module _ {D P : Type 0} (given : P → Option (List Arrived)) (does : P → Call
         by None e made = absurd made
         by (Some x) e made = record {
           chosen = Some x;
-          is_chosen = by_arrival given does vouches old new builds (no_job none) came goes x e;
+          is_chosen = by_arrival given does vouches old new handed (no_answer none) came goes x e;
           made = made;
           same = same;
         }
@@ -163,7 +176,7 @@ module _ {D P : Type 0} (given : P → Option (List Arrived)) (does : P → Call
         | inl memory ↦ no_memory memory
         | inr node ↦ subst IsFault (sym (t.tells ∙ node)) (
           Comes t.text,
-          by_arrival given does vouches old new builds (no_job none) came goes (me, Comes t.text) t.comes,
+          by_arrival given does vouches old new handed (no_answer none) came goes (me, Comes t.text) t.comes,
           record { cause = inl takes; leaves = t.leaves },
         )
       ]
@@ -173,79 +186,87 @@ module _ {D P : Type 0} (given : P → Option (List Arrived)) (does : P → Call
         no_memory memory = wants (t.leaves ∙ ap (left_by n (Comes t.text)) memory) f
             (t.tells ∙ ap told memory)
 
-    -- ---- what it does on its own initiative
+    -- ---- what it does on its initiative
 
     module _ (nothing : IsMade old.node (comes_to (only n) came) None) where
-      -- The node does this on its own initiative, if anything.
-      abbrev pub DoesOwn : Option Input → Type 0
-      DoesOwn own = IsOwnIf (only n) count old.pending me (member_up n) own
+      -- The node does this on its initiative, if anything.
+      abbrev pub DoesSo : Option Input → Type 0
+      DoesSo done =
+          IsDoneIf (only n) count old.pending (λ k. handed.initiative) me (member_up n) done
 
-      own_chosen : (input : Input) → DoesOwn (Some input)
-          → IsChosen given does vouches old new (AllBuilds builds) [] (Some (me, Does input))
-      own_chosen input own =
-          by_own given does vouches old new builds (no_job none) came goes (Some (me, Does input))
-          (nothing_taken old.node (comes_to (only n) came) nothing)
-          (this_one_does n count old.pending input own (in_turn old.pending.next count)
+      done_chosen : (input : Input) → DoesSo (Some input)
+          → IsChosen given does vouches old new handed [] (Some (me, Does input))
+      done_chosen input done =
+          by_done given does vouches old new handed (no_answer none) came goes
+          (Some (me, Does input)) (nothing_taken old.node (comes_to (only n) came) nothing)
+          (this_one_does n count old.pending (λ k. handed.initiative) input done
+          (in_turn old.pending.next count)
           (in_turns me old.pending.next count is.one_of_them))
 
-      pub own_made : new.node ≡ old.node → (o : Option CausedStep)
-          → ((own : Option Input) × DoesOwn own × IsPart old.node own o) → HasMade o
-      own_made same None (None, own, part) = record {
+      done_made : new.node ≡ old.node → (o : Option CausedStep)
+          → ((done : Option Input) × DoesSo done × IsPart old.node done o) → HasMade o
+      done_made same None (None, done, part) = record {
         chosen = None;
-        is_chosen = by_own given does vouches old new builds (no_job none) came goes None
+        is_chosen = by_done given does vouches old new handed (no_answer none) came goes None
             (nothing_taken old.node (comes_to (only n) came) nothing)
-            (none_does n count old.pending own (in_turn old.pending.next count));
+            (none_does n count old.pending (λ k. handed.initiative) done
+            (in_turn old.pending.next count));
         made = tt;
         same = same;
       }
-      own_made same (Some r) (None, own, part) = absurd part
-      own_made same None (Some input, own, part) = absurd part
-      own_made same (Some r) (Some input, own, part) = record {
+      done_made same (Some r) (None, done, part) = absurd part
+      done_made same None (Some input, done, part) = absurd part
+      done_made same (Some r) (Some input, done, part) = record {
         chosen = Some (me, Does input);
-        is_chosen = own_chosen input own;
+        is_chosen = done_chosen input done;
         made = (refl, part);
         same = same;
       }
 
-      pub own_fault : new.node.node ≡ n → (f : TurnFault)
-          → ((own : Option Input) × (g : NodeFault) × DoesOwn own × (f ≡ told g)
-          × IsNoPart old.node own g)
+      done_fault : new.node.node ≡ n → (f : TurnFault)
+          → ((done : Option Input) × (g : NodeFault) × DoesSo done × (f ≡ told g)
+          × IsNoPart old.node done g)
           → IsFault f
-      own_fault same f (own, g, does, tells, inl memory) =
+      done_fault same f (done, g, does_so, tells, inl memory) =
           wants same f (tells ∙ ap told memory)
-      own_fault same f (own, g, does, tells, inr (input, some, takes)) = elim (told_is g) [
+      done_fault same f (done, g, does_so, tells, inr (input, some, takes)) = elim (told_is g) [
         | inl memory ↦ wants same f (tells ∙ ap told memory)
         | inr node ↦ subst IsFault (sym (tells ∙ node)) (
           Does input,
-          own_chosen input (subst DoesOwn some does),
+          done_chosen input (subst DoesSo some does_so),
           record { cause = inl takes; leaves = same ∙ sym (stays n input g takes) },
         )
       ]
 
       -- ---- the results for a node and a number that are equal to these
 
-      -- Node m does this on its own initiative as number k, if anything.
-      abbrev DoesOwnAs : LoggedNode D → ℕ → Option Input → Type 0
-      DoesOwnAs m k own = IsOwnIf (only m.node) (length m.node.member.weights) old.pending k
-          (member_up m.node) own
+      -- Node m does this on its initiative as number k, if anything.
+      abbrev DoesAs : LoggedNode D → ℕ → Option Input → Type 0
+      DoesAs m k done = IsDoneIf (only m.node) (length m.node.member.weights) old.pending
+          (λ j. handed.initiative) k (member_up m.node) done
 
-      module _ (m : LoggedNode D) (stays : m ≡ old.node) (k : ℕ) (this : k ≡ me) where
-        does_own : (own : Option Input) → DoesOwnAs m k own → DoesOwn own
-        does_own own does =
-            subst (λ j. DoesOwnAs old.node j own) this (subst (λ x. DoesOwnAs x k own) stays does)
+      module _ (m : LoggedNode D) (same_node : m ≡ old.node) (k : ℕ) (this : k ≡ me) where
+        does_so_as : (done : Option Input) → DoesAs m k done → DoesSo done
+        does_so_as done is = subst (λ j. DoesAs old.node j done) this
+            (subst (λ x. DoesAs x k done) same_node is)
 
-        pub own_answers : new.node ≡ m → (answer : Result (Option CausedStep) TurnFault)
-            → IfOk answer (λ o. (own : Option Input) × DoesOwnAs m k own × IsPart m own o)
+        pub done_answers : new.node ≡ m → (answer : Result (Option CausedStep) TurnFault)
+            → IfOk answer (λ o. (done : Option Input) × DoesAs m k done × IsPart m done o)
             → IfOk answer HasMade
-        own_answers same (Ok o) (own, does, part) = own_made (same ∙ stays) o
-            (own, does_own own does, subst (λ x. IsPart x own o) stays part)
-        own_answers same (Err f) has = tt
+        done_answers same (Ok o) (done, is, part) = done_made (same ∙ same_node) o
+            (done, does_so_as done is, subst (λ x. IsPart x done o) same_node part)
+        done_answers same (Err f) has = tt
 
-        pub own_faults : new.node ≡ m → (answer : Result (Option CausedStep) TurnFault)
-            → IfErr answer (λ f. (own : Option Input) × (g : NodeFault) × DoesOwnAs m k own
-            × (f ≡ told g) × IsNoPart m own g)
+        pub done_faults : new.node ≡ m → (answer : Result (Option CausedStep) TurnFault)
+            → IfErr answer (λ f. (done : Option Input) × (g : NodeFault) × DoesAs m k done
+            × (f ≡ told g) × IsNoPart m done g)
             → IfErr answer IsFault
-        own_faults same (Ok o) has = tt
-        own_faults same (Err f) (own, g, does, tells, none) =
-            own_fault (ap (λ x. x.node) (same ∙ stays)) f
-            (own, g, does_own own does, tells, subst (λ x. IsNoPart x own g) stays none)
+        done_faults same (Ok o) has = tt
+        done_faults same (Err f) (done, g, is, tells, no_part) =
+            done_fault (ap (λ x. x.node) (same ∙ same_node)) f (
+              done,
+              g,
+              does_so_as done is,
+              tells,
+              subst (λ x. IsNoPart x done g) same_node no_part,
+            )

@@ -3,9 +3,9 @@ use Rattle.std.proofs.Common.{◌≡◌, ℕ, List, [], ◌∷◌, Option, None,
 use Rattle.std.specs.List.{range_with_len}
 use Rattle.std.specs.Prelude.{option_and_then, option_map}
 use Rattle.std.specs.declared.alloc.Global.{Global}
-use Rattle.turn_rules.specs.Answering.{answer_of}
-use Rattle.turn_rules.specs.Choice.{Chosen, Here, IsChoice, IsFirstOwn, IsGivenOr, comes_to, first_job, in_turn, job_at}
-use Rattle.turn_rules.specs.Pending.{Pending, above_at}
+use Rattle.turn_rules.specs.Answering.{answer_if}
+use Rattle.turn_rules.specs.Choice.{Chosen, Here, IsChoice, IsFirstDone, IsGivenOr, Made, Who, answer_at, comes_to, first_answer, in_turn}
+use Rattle.turn_rules.specs.Pending.{Pending}
 use Rattle.faults.specs.Answers.{first_given, option_or}
 use Rattle.faults.specs.Bytes.{Text}
 use Rattle.node.specs.Step.{Asked, Comes, Does}
@@ -13,12 +13,9 @@ use Rattle.turn_rules.specs.Calls.{came_by}
 use Rattle.datagram_ports.specs.Calls.{Call, Received, told}
 use Rattle.datagram_ports.specs.Kept.{Arrived, GoesOnBy, Parcel, arrived}
 use Rattle.datagram_ports.specs.declared.fault.PortFault.{PortFault}
-use Rattle.protocol.specs.Given.{Given}
 use Rattle.protocol.specs.State.{State}
 use Rattle.protocol.specs.declared.input.Input.{Input}
-use Rattle.turn_rules.specs.Live.{answer_if, asked_for, first_answer, first_going, going_on, left_to_do, live_choice, wished}
-use Rattle.turn_rules.specs.declared.wish.Wish.{Wish}
-use Rattle.lone_node.specs.Handed.{AllBuilds, Handed, IsChoiceBy, SoFar}
+use Rattle.lone_node.specs.Handed.{Handed, IsChoiceBy}
 use Rattle.lone_node.specs.State.{SoloState, me_of, only}
 use Rattle.lone_node.specs.Turn.{IsChosen, IsHeard, IsVouchedFor}
 use Rattle.lone_node.specs.inside.Turning.{HasCome}
@@ -115,28 +112,28 @@ module _ (here : Here) (came : Arrived) where
           let same : ◌≡◌ {A = ℕ × Asked} (k, Does input) x = cc in
           subst (λ y. FromCame came y.1) same tt
 
-  jobs : (builds : Given) (ks : List ℕ) (x : ℕ × Asked)
-      → first_given (job_at here builds) ks ≡ Some x → FromCame came x.1
-  jobs builds = each_does (λ k. option_and_then (λ s. answer_of s builds) (here k))
+  answers : (made : Made) (ks : List ℕ) (x : ℕ × Asked)
+      → first_given (answer_at here made) ks ≡ Some x → FromCame came x.1
+  answers made = each_does (λ k. option_and_then (answer_if (made k)) (here k))
 
-  owns : (count : ℕ) (p : Pending) (ks : List ℕ) (x : ℕ × Asked)
-      → IsFirstOwn here count p ks (Some x) → FromCame came x.1
-  owns count p [] x is = absurd (let no : ◌≡◌ {A = Chosen} (Some x) None = is in cc)
-  owns count p (k ∷ ks) x (None, own, later) = owns count p ks x later
-  owns count p (k ∷ ks) x (Some input, own, done) =
-      let known : ◌≡◌ {A = Chosen} (Some x) (Some (k, Does input)) = done in
+  dones : (count : ℕ) (p : Pending) (who : Who) (ks : List ℕ) (x : ℕ × Asked)
+      → IsFirstDone here count p who ks (Some x) → FromCame came x.1
+  dones count p who [] x is = absurd (let no : ◌≡◌ {A = Chosen} (Some x) None = is in cc)
+  dones count p who (k ∷ ks) x (None, done, later) = dones count p who ks x later
+  dones count p who (k ∷ ks) x (Some input, done, is) =
+      let known : ◌≡◌ {A = Chosen} (Some x) (Some (k, Does input)) = is in
       let same : ◌≡◌ {A = ℕ × Asked} x (k, Does input) = cc in
       subst (λ y. FromCame came y.1) (sym same) tt
 
-  pub from_came : (count : ℕ) (p : Pending) (builds : Given) (x : ℕ × Asked)
-      → IsChoice here count p builds came (Some x) → FromCame came x.1
-  from_came count p builds x is = by_job (first_job here count builds) refl is
+  pub from_came : (count : ℕ) (p : Pending) (made : Made) (who : Who) (x : ℕ × Asked)
+      → IsChoice here count p made who came (Some x) → FromCame came x.1
+  from_came count p made who x is = by_answer (first_answer here count made) refl is
     where
       by_here : (d : ℕ × Text) → came ≡ Some d → (o : Option State)
           → IsGivenOr (option_map (λ (s : State). (d.0, Comes d.1)) o) (Some x)
-          (IsFirstOwn here count p (in_turn p.next count) (Some x))
+          (IsFirstDone here count p who (in_turn p.next count) (Some x))
           → FromCame came x.1
-      by_here d e None is = owns count p (in_turn p.next count) x is
+      by_here d e None is = dones count p who (in_turn p.next count) x is
       by_here d e (Some s) is =
           let known : ◌≡◌ {A = Chosen} (Some x) (Some (d.0, Comes d.1)) = is in
           let same : ◌≡◌ {A = ℕ × Asked} x (d.0, Comes d.1) = cc in
@@ -144,92 +141,32 @@ module _ (here : Here) (came : Arrived) where
 
       by_came : (a : Arrived) → came ≡ a
           → IsGivenOr (comes_to here a) (Some x)
-          (IsFirstOwn here count p (in_turn p.next count) (Some x))
+          (IsFirstDone here count p who (in_turn p.next count) (Some x))
           → FromCame came x.1
-      by_came None e is = owns count p (in_turn p.next count) x is
+      by_came None e is = dones count p who (in_turn p.next count) x is
       by_came (Some d) e is = by_here d e (here d.0) is
 
-      by_job : (o : Chosen) → first_job here count builds ≡ o
+      by_answer : (o : Chosen) → first_answer here count made ≡ o
           → IsGivenOr (option_or o (comes_to here came)) (Some x)
-          (IsFirstOwn here count p (in_turn p.next count) (Some x)) → FromCame came x.1
-      by_job None job is = by_came came refl is
-      by_job (Some y) job is =
+          (IsFirstDone here count p who (in_turn p.next count) (Some x)) → FromCame came x.1
+      by_answer None job is = by_came came refl is
+      by_answer (Some y) job is =
           let known : ◌≡◌ {A = Chosen} (Some x) (Some y) = is in
           let same : x ≡ y = cc in
-          jobs builds (range_with_len 0 count) x
-          (subst (λ z. first_job here count builds ≡ Some z) (sym same) job)
+          answers made (range_with_len 0 count) x
+          (subst (λ z. first_answer here count made ≡ Some z) (sym same) job)
 
-  module _ (made : Option Given) (v : Option (ℕ × Wish)) (count : ℕ) (p : Pending)
-      (x : ℕ × Asked) where
-    going : Some x ≡ first_going here count p → FromCame came x.1
-    going is = each_does (λ k. option_and_then (going_on (above_at p k)) (here k))
-        (in_turn p.next count) x (sym is)
-
-    by_wish : (k : ℕ) (w : Wish) (o : Option State)
-        → Some x ≡ option_or (option_map (λ (s : State). (k, Does (asked_for w s))) o)
-        (first_going here count p)
-        → FromCame came x.1
-    by_wish k w None is = going is
-    by_wish k w (Some s) is =
-        let known : ◌≡◌ {A = Chosen} (Some x) (Some (k, Does (asked_for w s))) = is in
-        let same : ◌≡◌ {A = ℕ × Asked} x (k, Does (asked_for w s)) = cc in
-        subst (λ y. FromCame came y.1) (sym same) tt
-
-    by_left : (u : Option (ℕ × Wish))
-        → Some x ≡ option_or (wished here u) (first_going here count p) → FromCame came x.1
-    by_left None is = going is
-    by_left (Some (k, w)) is = by_wish k w (here k) is
-
-    comes_here : (d : ℕ × Text) → came ≡ Some d → (o : Option State)
-        → Some x ≡ option_or (option_map (λ (s : State). (d.0, Comes d.1)) o)
-        (left_to_do here count p v)
-        → FromCame came x.1
-    comes_here d e None is = by_left v is
-    comes_here d e (Some s) is =
-        let known : ◌≡◌ {A = Chosen} (Some x) (Some (d.0, Comes d.1)) = is in
-        let same : ◌≡◌ {A = ℕ × Asked} x (d.0, Comes d.1) = cc in
-        subst (λ y. FromCame came y.1) (sym same) (d.0, e)
-
-    comes_in : (a : Arrived) → came ≡ a
-        → Some x ≡ option_or (comes_to here a) (left_to_do here count p v) → FromCame came x.1
-    comes_in None e is = by_left v is
-    comes_in (Some d) e is = comes_here d e (here d.0) is
-
-    answers : (o : Chosen) → first_answer here count (λ k. made) ≡ o
-        → Some x ≡ option_or o (option_or (comes_to here came) (left_to_do here count p v))
-        → FromCame came x.1
-    answers None none is = comes_in came refl is
-    answers (Some y) some is =
-        let known : ◌≡◌ {A = Chosen} (Some x) (Some y) = is in
-        let same : x ≡ y = cc in
-        each_does (λ k. option_and_then (answer_if made) (here k)) (range_with_len 0 count) x
-        (subst (λ z. first_answer here count (λ k. made) ≡ Some z) (sym same) some)
-
-    pub live_from_came : Some x ≡ live_choice here count p (λ k. made) v came
-        → FromCame came x.1
-    live_from_came is = answers (first_answer here count (λ k. made)) refl is
-
--- the port vouches for bytes that a turn chooses
+-- the port vouched for bytes that a turn chooses, as the receive left it
 pub choice_heard : {D P : Type 0} (given : P → Option (List Arrived))
     (does : P → Call → P → Type 0) (vouches : P → Text → Type 0) (old new : SoloState D P)
-    (handed : Handed) (parcels : List Parcel) (asked : Asked)
-    → IsChosen given does vouches old new handed parcels (Some (me_of old, asked))
-    → IsHeard vouches new.port asked
-choice_heard given does vouches old new handed parcels asked is =
-    is_heard vouches new.port came asked (by handed is.choice) is.vouched
-  where
-    came : Arrived
-    came = came_by is.answer
-
-    here : Here
-    here = only old.node.node
-
-    count : ℕ
-    count = length old.node.node.member.weights
-
-    by : (h : Handed)
-        → IsChoiceBy h here count old.pending (me_of old) came (Some (me_of old, asked))
-        → FromCame came asked
-    by (AllBuilds builds) c = from_came here came count old.pending builds (me_of old, asked) c
-    by (SoFar made wish) c = live_from_came here came made (option_map (λ w. (me_of old, w)) wish)
-        count old.pending (me_of old, asked) c
+    (handed : Handed) (parcels : List Parcel) (chosen : Chosen)
+    (is : IsChosen given does vouches old new handed parcels chosen) (asked : Asked)
+    → chosen ≡ Some (me_of old, asked) → IsHeard vouches is.between asked
+choice_heard given does vouches old new handed parcels chosen is asked same =
+    is_heard vouches is.between (came_by is.answer) asked
+    (from_came (only old.node.node) (came_by is.answer)
+    (length old.node.node.member.weights) old.pending (λ k. handed.made)
+    (λ k. handed.initiative) (me_of old, asked)
+    (subst (IsChoiceBy handed (only old.node.node) (length old.node.node.member.weights)
+    old.pending (came_by is.answer)) same is.choice))
+    is.vouched

@@ -11,8 +11,7 @@ use Rattle.node.specs.Calls.{HasFilled, HasTried, LeavesItsNoteAtMost, left_by}
 use Rattle.node.specs.OnLog.{HasRoomForNote, IsFull, IsOnLog, LacksRoom}
 use Rattle.node.specs.State.{LoggedNode}
 use Rattle.node.specs.Parcels.{datagrams_to}
-use Rattle.node.specs.Step.{Asked, Takes, after, note_in, taken_by}
-use Rattle.turn_rules.specs.Calls.{came_by}
+use Rattle.node.specs.Step.{Asked, Comes, Does, Takes, after, note_in, taken_by}
 use Rattle.turn_rules.specs.Offered.{WasOffered, parcels_from}
 use Rattle.turn_rules.specs.CausedSteps.{IsCausedStep}
 use Rattle.turn_rules.specs.declared.caused_step.CausedStep.{CausedStep}
@@ -21,9 +20,10 @@ use Rattle.datagram_ports.specs.Kept.{Arrived, GoesOnBy, KeepsVouching, Parcel}
 use Rattle.lone_node.specs.Handed.{Handed}
 use Rattle.stable_record.specs.History.{History}
 use Rattle.lone_node.proofs.ByCase.{goes_no_more, goes_on}
+use Rattle.lone_node.proofs.Coming.{choice_heard}
 use Rattle.lone_node.specs.Faults.{IsTurnFault}
 use Rattle.lone_node.specs.State.{SoloState, me_of}
-use Rattle.lone_node.specs.Turn.{HasTaken, IsChosen, IsUntouched, IsVouchedFor, LeavesAtMost}
+use Rattle.lone_node.specs.Turn.{HasTaken, IsChosen, IsHeard, IsUntouched, LeavesAtMost}
 use Rattle.lone_node.specs.inside.Turning.{HasChosen, IsMade, IsTakingFault, TookStep}
 
 module _ {D : Type 0} (n : LoggedNode D) (r : CausedStep) where
@@ -81,11 +81,10 @@ none_sent does old new (a ∷ answers, are, went) =
     absurd (let no : ◌≡◌ {A = List Parcel} (a.0 ∷ map (λ x. x.0) answers) [] = are in cc)
 
 -- what was vouched for still is
-vouched_on : {P : Type 0} (vouches : P → Text → Type 0) (old new : P) (came : Arrived)
-    → KeepsVouching vouches old new → IsVouchedFor vouches old came
-    → IsVouchedFor vouches new came
-vouched_on vouches old new None keeps is = tt
-vouched_on vouches old new (Some d) keeps is = keeps d.1 is
+heard_on : {P : Type 0} (vouches : P → Text → Type 0) (old new : P) (asked : Asked)
+    → KeepsVouching vouches old new → IsHeard vouches old asked → IsHeard vouches new asked
+heard_on vouches old new (Does input) keeps is = tt
+heard_on vouches old new (Comes text) keeps is = keeps text is
 
 module _ {D P : Type 0} (given : P → Option (List Arrived)) (does : P → Call → P → Type 0)
     (vouches : P → Text → Type 0) (old mid new : SoloState D P) (handed : Handed) where
@@ -93,27 +92,34 @@ module _ {D P : Type 0} (given : P → Option (List Arrived)) (does : P → Call
   pub chosen_then : (c : Chosen) (parcels : List Parcel)
       → IsChosen given does vouches old mid handed [] c
       → GoesOnBy [] (given mid.port) (given new.port) → WasOffered does mid.port parcels new.port
-      → KeepsVouching vouches mid.port new.port
       → IsChosen given does vouches old new handed parcels c
-  chosen_then c parcels is nothing sent keeps = record {
+  chosen_then c parcels is nothing sent = record {
     answer = is.answer;
     looked = goes_no_more _ (given old.port) (given mid.port) (given new.port) is.looked nothing;
     between = is.between;
     received = is.received;
     sent = subst (λ p. WasOffered does p parcels new.port)
         (none_sent does is.between mid.port is.sent) sent;
-    vouched = vouched_on vouches mid.port new.port (came_by is.answer) keeps is.vouched;
+    vouched = is.vouched;
     choice = is.choice;
   }
 
   module _ (r : CausedStep) (has : HasChosen given does vouches old mid handed (Some r))
-      (nothing : GoesOnBy [] (given mid.port) (given new.port))
-      (keeps : KeepsVouching vouches mid.port new.port) where
+      (nothing : GoesOnBy [] (given mid.port) (given new.port)) where
     pub chosen_so : (parcels : List Parcel) → WasOffered does mid.port parcels new.port
         → IsChosen given does vouches old new handed parcels (Some (me_of old, asked_by r.act))
     chosen_so parcels sent = subst (λ c. IsChosen given does vouches old new handed parcels c)
         (chosen_is old.node r has.chosen has.made)
-        (chosen_then has.chosen parcels has.is_chosen nothing sent keeps)
+        (chosen_then has.chosen parcels has.is_chosen nothing sent)
+
+    -- the port vouches for bytes that the node took
+    pub heard_so : KeepsVouching vouches mid.port new.port
+        → IsHeard vouches new.port (asked_by r.act)
+    heard_so keeps = heard_on vouches mid.port new.port (asked_by r.act) keeps
+        (subst (λ p. IsHeard vouches p (asked_by r.act))
+        (sym (none_sent does has.is_chosen.between mid.port has.is_chosen.sent))
+        (choice_heard given does vouches old mid handed [] has.chosen has.is_chosen
+        (asked_by r.act) (chosen_is old.node r has.chosen has.made)))
 
     -- the prepared step was taken
     pub taken_so : (offered : P → Option (List Parcel)) → mid.pending ≡ old.pending

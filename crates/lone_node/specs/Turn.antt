@@ -20,7 +20,7 @@ use Rattle.lone_node.specs.State.{SoloState, me_of, only}
 abbrev pub has_work : {D P : Type 0} → SoloState D P → Handed → Bool
 has_work s handed = answers_first handed (only s.node.node) (length s.node.node.member.weights)
 
--- What receives returned in the turn. The port is asked once, unless a job waited for its answer.
+-- What receives returned in the turn. The port is asked once, unless a job was answered.
 abbrev pub looked_for : Bool → Arrived → List Arrived
 looked_for has_job came = if has_job then [] else came ∷ []
 
@@ -33,8 +33,9 @@ abbrev pub IsVouchedFor : {P : Type 0} → (P → Text → Type 0) → P → Arr
 IsVouchedFor vouches port None = ⊤
 IsVouchedFor vouches port (Some d) = vouches port d.1
 
--- It is the turn's choice, given what the port returned, which it vouches for. The port went
--- through exactly these calls: one receive or none, and then the sends of these datagrams.
+-- It is the turn's choice, given what a receive returned, which the port vouched for as the receive
+-- left it. The port went through exactly these calls: one receive or none, and then the sends of
+-- these datagrams.
 pub record IsChosen {D P : Type 0} (given : P → Option (List Arrived))
     (does : P → Call → P → Type 0) (vouches : P → Text → Type 0) (old new : SoloState D P)
     (handed : Handed) (parcels : List Parcel) (chosen : Chosen) : Type 0 where
@@ -44,9 +45,9 @@ pub record IsChosen {D P : Type 0} (given : P → Option (List Arrived))
   pub between : P
   pub received : WentThrough does old.port (received_by (has_work old handed) answer) between
   pub sent : WasOffered does between parcels new.port
-  pub vouched : IsVouchedFor vouches new.port (came_by answer)
+  pub vouched : IsVouchedFor vouches between (came_by answer)
   pub choice : IsChoiceBy handed (only old.node.node) (length old.node.node.member.weights)
-      old.pending (me_of old) (came_by answer) chosen
+      old.pending (came_by answer) chosen
 
 -- The node took its step on what it was asked, and its log had room for the note. The state between
 -- turns was updated, and exactly the step's sends were offered.

@@ -1,9 +1,9 @@
 -- Sequences of turns of a node.
-use Rattle.std.specs.Prelude.{◌≡◌, ◌⊎◌, ℕ, false, List, [], ◌∷◌, Option, None, Result, IfErr, IfNone, IfOk, IfSome, MatchResult, length}
+use Rattle.std.specs.Prelude.{◌≡◌, ◌⊎◌, ℕ, Bool, false, true, List, [], ◌∷◌, Option, None, Result, Err, Ok, IfErr, IfNone, IfOk, IfSome, MatchResult, length}
 use Rattle.turn_rules.specs.Acts.{asked_by}
 use Rattle.turn_rules.specs.declared.act.Act.{Act}
 use Rattle.turn_rules.specs.declared.fault.TurnFault.{TurnFault}
-use Rattle.turn_rules.specs.declared.fault.TurnFault.TheVariants.{Down}
+use Rattle.turn_rules.specs.declared.fault.TurnFault.TheVariants.{Down, Memory, Node, NotFresh, NotSent}
 use Rattle.faults.specs.Bytes.{Text}
 use Rattle.node.specs.OnLog.{IsLogged, IsOnLog}
 use Rattle.datagram_ports.specs.Calls.{Call}
@@ -19,10 +19,18 @@ use Rattle.lone_node.specs.Turn.{HasTaken, IsChosen, IsHeard, IsUntouched, Leave
 abbrev pub Outcome : Type 0
 Outcome = Result (Option Act) TurnFault
 
+-- whether a turn with this answer counts: it doesn't if memory ran out
+abbrev pub counts : Outcome → Bool
+counts (Ok act) = true
+counts (Err Memory) = false
+counts (Err (Node f)) = true
+counts (Err (Down k)) = true
+counts (Err NotSent) = true
+counts (Err NotFresh) = true
+
 -- What a successful turn did:
 -- - It took the node's step on the turn's choice. The port went through exactly one receive, unless
---   a job waited for its answer, and then the step's sends. It vouches for bytes that the node
---   took.
+--   a job was answered, and then the step's sends. It vouches for bytes that the node took.
 -- - Or there was nothing to do, and only the port changed, which was asked in the same way.
 pub record HasDone {D P : Type 0} (given : P → Option (List Arrived))
     (offered : P → Option (List Parcel)) (does : P → Call → P → Type 0)

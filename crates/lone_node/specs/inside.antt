@@ -1,3 +1,2 @@
 -- What only bodies and proofs need.
-pub mod Live
 pub mod Turning

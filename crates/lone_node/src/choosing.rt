@@ -3,6 +3,7 @@ ghost use Rattle.std.specs.Prelude.{
   ◌≡◌,
   ◌≢◌,
   ◌<◌,
+  ◌||◌,
   ◌⊎◌,
   [],
   IfErr,
@@ -14,8 +15,9 @@ ghost use Rattle.std.specs.Prelude.{
   option_and_then,
   option_map,
 };
-ghost use Rattle.turn_rules.specs.Answering.{answer_of};
-ghost use Rattle.turn_rules.specs.Choice.{IsOwnIf, comes_to};
+ghost use Rattle.turn_rules.specs.Answering.{answer_if};
+ghost use Rattle.turn_rules.specs.Choice.{IsDoneBy, IsDoneIf, comes_to};
+ghost use Rattle.turn_rules.specs.Pending.{has_failed};
 ghost use Rattle.turn_rules.specs.declared.fault.TurnFault.TheVariants as refused;
 ghost use Rattle.node.specs.declared.fault.NodeFault.{NodeFault as Fault};
 ghost use Rattle.node.specs.Calls.{left_by};
@@ -26,7 +28,7 @@ ghost use Rattle.protocol.specs.declared.input.Input.{Input as Asks};
 ghost use Rattle.turn_rules.specs.CausedSteps.{IsNoPart, IsPart};
 ghost use Rattle.turn_rules.specs.Unfailed.{AllFailedBelow};
 ghost use Rattle.lone_node.specs.Faults.{IsTurnFault};
-ghost use Rattle.lone_node.specs.Handed.{AllBuilds};
+ghost use Rattle.lone_node.specs.Handed.{handed};
 ghost use Rattle.lone_node.specs.State.{member_up, only};
 ghost use Rattle.lone_node.specs.inside.Turning.{HasChosen, HasCome, IsMade, IsNotTaken, solo_of, told};
 
@@ -34,13 +36,16 @@ use datagram_ports::Port;
 use node::{Node, NodeFault};
 use protocol::Packages;
 use stable_record::Disk;
-use turn_rules::{CausedStep, Pending, TurnFault, answer, own_from, take_in, unfailed_from};
+use turn_rules::{
+    CausedStep, Initiative, Pending, TurnFault, answer_if, do_scheduled, own_from, take_in,
+    unfailed_from,
+};
 
 /// What the node does in the turn, if anything, with its step prepared. It does the first of these
 /// that applies:
-/// 1. It answers its job.
+/// 1. It answers its job, if the files for it are made.
 /// 2. It takes a received datagram that is for it; the port is asked once.
-/// 3. It does something on its own initiative.
+/// 3. It does something on its initiative.
 ///
 /// Below `unfailed` the only queued packages are those whose units failed.
 ///
@@ -53,7 +58,8 @@ pub(crate) fn choose<D: Disk, P: Port>(
     port: &mut P,
     pending: &Pending,
     unfailed: &mut u32,
-    builds: &Packages,
+    made: Option<&Packages>,
+    initiative: Initiative,
 ) -> Result<Option<CausedStep>, TurnFault>
     requires { AllFailedBelow node.old.node.member pending.now unfailed.old }
     ensures logged { IsLogged node.old }
@@ -61,46 +67,48 @@ pub(crate) fn choose<D: Disk, P: Port>(
     ensures offered { GoesOnBy [] (P.offered port.old) (P.offered port.new) }
     ensures chosen { IfOk result (HasChosen P.given P.does P.vouches
         (solo_of node.old pending.now port.old) (solo_of node.new pending.now port.new)
-        (AllBuilds builds.now)) }
+        (handed (option_map (λ b. b.now) made.entry) initiative)) }
     ensures refused { IfErr result (IsTurnFault P.given P.does P.vouches
         (solo_of node.old pending.now port.old) (solo_of node.new pending.now port.new)
-        (AllBuilds builds.now) (λ asked. ⊥)) }
+        (handed (option_map (λ b. b.now) made.entry) initiative) (λ asked. ⊥)) }
     ensures vouches_on { KeepsVouching P.vouches port.old port.new }
     ensures below { AllFailedBelow node.old.node.member pending.now unfailed.new }
 {
     let me = node.member().me();
-    if let Some(readied) = answered(node, builds)? {
+    if let Some(readied) = answered(node, made)? {
         return Ok(Some(readied));
     }
     let came = received(port);
     if let Some(readied) = taken_in(node, me, came)? {
         return Ok(Some(readied));
     }
-    done(node, me, pending, unfailed)
+    done(node, me, pending, unfailed, initiative)
 }
 
-/// The node's answer to its job, if it is up and has one.
+/// The node's answer to its job, if it is up and the files for it are made.
 fn answered<D: Disk>(
     node: &mut Node<'_, D>,
-    builds: &Packages,
+    made: Option<&Packages>,
 ) -> Result<Option<CausedStep>, TurnFault>
     ensures same { node.new ≡ node.old }
     ensures part { IfOk result (IsPart node.old
-        (option_and_then (λ s. answer_of s builds.now) (member_up node.old.node))) }
+        (option_and_then (answer_if (option_map (λ b. b.now) made.entry))
+        (member_up node.old.node))) }
     ensures refused { IfErr result (λ f. (f ≡ refused.Memory)
-        × (option_and_then (λ s. answer_of s builds.now) (member_up node.old.node) ≢ None)) }
+        × (option_and_then (answer_if (option_map (λ b. b.now) made.entry))
+        (member_up node.old.node) ≢ None)) }
 {
     if node.is_stopped() {
         return Ok(None);
     }
-    match answer(node.allocator(), node, builds) {
+    match answer_if(node.allocator(), node, made) {
         Ok(readied) => Ok(readied),
         Err(fault) => Err(told(fault)),
     }
 }
 
 /// Receives a datagram. A receive that fails counts as one that returned nothing.
-pub(crate) fn received<P: Port>(port: &mut P) -> Option<(u8, Vec<u8>)>
+fn received<P: Port>(port: &mut P) -> Option<(u8, Vec<u8>)>
     ensures came { HasCome P.given P.does P.vouches port.old port.new
         (option_map (λ d. (d.0, d.1.items)) result) }
     ensures offered { GoesOnBy [] (P.offered port.old) (P.offered port.new) }
@@ -114,7 +122,7 @@ pub(crate) fn received<P: Port>(port: &mut P) -> Option<(u8, Vec<u8>)>
 
 /// Prepares the step on the received datagram, if that is for the node and the node is up. `me` is
 /// the node's number.
-pub(crate) fn taken_in<D: Disk>(
+fn taken_in<D: Disk>(
     node: &mut Node<'_, D>,
     me: u8,
     came: Option<(u8, Vec<u8>)>,
@@ -135,35 +143,66 @@ pub(crate) fn taken_in<D: Disk>(
     }
 }
 
-/// What the node does on its own initiative, if it is up and does anything. No unit is claimed by
+/// What the node does on its initiative, if it is up and does anything. No unit is claimed by
 /// another node here. `me` is the node's number.
 fn done<D: Disk>(
     node: &mut Node<'_, D>,
     me: u8,
     pending: &Pending,
     unfailed: &mut u32,
+    initiative: Initiative,
 ) -> Result<Option<CausedStep>, TurnFault>
     requires me { me ≡ node.old.node.member.me }
     requires few { me < 9 }
     requires below { AllFailedBelow node.old.node.member pending.now unfailed.old }
     ensures same { node.new ≡ node.old }
-    ensures part { IfOk result (λ r. (own : Option Asks)
-        × IsOwnIf (only node.old.node) (length node.old.node.member.weights) pending.now me
-        (member_up node.old.node) own
-        × IsPart node.old own r) }
-    ensures refused { IfErr result (λ f. (own : Option Asks) × (g : Fault)
-        × IsOwnIf (only node.old.node) (length node.old.node.member.weights) pending.now me
-        (member_up node.old.node) own
-        × (f ≡ told g) × IsNoPart node.old own g) }
+    ensures part { IfOk result (λ r. (done : Option Asks)
+        × IsDoneIf (only node.old.node) (length node.old.node.member.weights) pending.now
+        (λ k. initiative) me (member_up node.old.node) done
+        × IsPart node.old done r) }
+    ensures refused { IfErr result (λ f. (done : Option Asks) × (g : Fault)
+        × IsDoneIf (only node.old.node) (length node.old.node.member.weights) pending.now
+        (λ k. initiative) me (member_up node.old.node) done
+        × (f ≡ told g) × IsNoPart node.old done g) }
     ensures below { AllFailedBelow node.old.node.member pending.now unfailed.new }
 {
     if node.is_stopped() {
         return Ok(None);
     }
-    *unfailed = unfailed_from(node.member(), pending, *unfailed);
-    match own_from(node, pending.above(me), pending, &[], *unfailed) {
+    match done_by(node, pending.above(me), pending, unfailed, initiative) {
         Ok(readied) => Ok(readied),
         Err(fault) => Err(told(fault)),
+    }
+}
+
+/// Like `done`, for a node that is up. `above` is the greatest round of the claims that block its
+/// open one.
+fn done_by<D: Disk>(
+    node: &mut Node<'_, D>,
+    above: Option<u64>,
+    pending: &Pending,
+    unfailed: &mut u32,
+    initiative: Initiative,
+) -> Result<Option<CausedStep>, NodeFault>
+    requires up { node.old.node.stopped ≡ false }
+    requires below { AllFailedBelow node.old.node.member pending.now unfailed.old }
+    ensures same { node.new ≡ node.old }
+    ensures part { IfOk result (λ r. (done : Option Asks)
+        × IsDoneBy initiative node.old.node.member above
+        (λ u. has_failed pending.now u || false) done
+        × IsPart node.old done r) }
+    ensures refused { IfErr result (λ g. (done : Option Asks)
+        × IsDoneBy initiative node.old.node.member above
+        (λ u. has_failed pending.now u || false) done
+        × IsNoPart node.old done g) }
+    ensures below { AllFailedBelow node.old.node.member pending.now unfailed.new }
+{
+    match initiative {
+        Initiative::Own => {
+            *unfailed = unfailed_from(node.member(), pending, *unfailed);
+            own_from(node, above, pending, &[], *unfailed)
+        }
+        Initiative::Scheduled(wish) => do_scheduled(node, above, wish),
     }
 }
 

@@ -2,9 +2,8 @@
 #![tactic(auto)]
 
 mod choosing;
-mod live;
 mod solo;
 mod taking;
 
 pub use crate::solo::Solo;
-pub use turn_rules::{Act, TurnFault};
+pub use turn_rules::{Act, Initiative, TurnFault};

@@ -12,10 +12,12 @@ ghost use Rattle.std.specs.Prelude.{
   None,
   Some,
   false,
+  is_some,
+  option_map,
   true,
 };
 ghost use Rattle.turn_rules.specs.Acts.{asked_by};
-ghost use Rattle.turn_rules.specs.Pending.{nothing_kept};
+ghost use Rattle.turn_rules.specs.Pending.{above_at, nothing_kept};
 ghost use Rattle.turn_rules.specs.declared.fault.TurnFault.TheVariants as refused;
 ghost use Rattle.engine.specs.State as engines;
 ghost use Rattle.node.specs.OnLog.{IsLogged, IsOnLog};
@@ -23,7 +25,8 @@ ghost use Rattle.datagram_ports.specs.Kept.{KeepsVouching};
 ghost use Rattle.protocol.specs.State.{engine_of};
 ghost use Rattle.stable_record.specs.Faults.{HasRisen};
 ghost use Rattle.lone_node.specs.Faults.{IsTurnFault};
-ghost use Rattle.lone_node.specs.Handed.{AllBuilds};
+ghost use Rattle.lone_node.specs.Handed.{AllBuilds, handed};
+ghost use Rattle.lone_node.specs.State.{me_of};
 ghost use Rattle.lone_node.specs.Turns.{IsTurn};
 ghost use Rattle.lone_node.specs.Turn.{HasTaken, IsChosen, IsHeard, IsUntouched, LeavesAtMost, OffersNothing};
 
@@ -35,7 +38,7 @@ use node::Node;
 use protocol::Packages;
 use stable_record::Disk;
 use std::marker::Model;
-use turn_rules::{Act, Pending, TurnFault};
+use turn_rules::{Act, Initiative, Pending, TurnFault};
 
 /// One node whose peers run elsewhere, and the port that it reaches them through.
 #[derive(Drop)]
@@ -82,17 +85,44 @@ impl<'a, D: Disk, P: Port> Solo<'a, D, P> {
         }
     }
 
-    /// Takes one turn, and returns what the node did, if anything. A datagram that a send refuses
-    /// is lost, and a receive that fails counts as one that returned nothing.
+    /// Takes one turn with all builds made, on the node's own initiative, and returns what the node
+    /// did, if anything.
     ///
     /// # Errors
     ///
-    /// `Memory`; `Down` if the node's device failed; otherwise the node's refusal.
+    /// Those of `turn_with`.
     pub fn turn(&mut self, builds: &Packages) -> Result<Option<Act>, TurnFault>
         ensures { IsTurn D.is_kept D.history D.failures_of P.given P.offered P.does P.vouches
             (AllBuilds builds.now) self.old self.new result }
     {
-        self.take_turn(builds)
+        self.turn_with(Some(builds), Initiative::Own)
+    }
+
+    /// Takes one turn, and returns what the node did, if anything. `made` has the files for the
+    /// node's job; while it is `None`, the job waits. If the node has nothing to answer and
+    /// received nothing, `initiative` decides what it does. A datagram that a send refuses is
+    /// lost, and a receive that fails counts as one that returned nothing.
+    ///
+    /// # Errors
+    ///
+    /// `Memory`; `Down` if the node's device failed; otherwise the node's refusal.
+    pub fn turn_with(
+        &mut self,
+        made: Option<&Packages>,
+        initiative: Initiative,
+    ) -> Result<Option<Act>, TurnFault>
+        ensures { IsTurn D.is_kept D.history D.failures_of P.given P.offered P.does P.vouches
+            (handed (option_map (λ b. b.now) made.entry) initiative) self.old self.new result }
+    {
+        self.take_turn(made, initiative)
+    }
+
+    /// Whether a greater claim blocks the open one, according to the nays so far.
+    pub fn is_in_the_way(&self) -> bool
+        ensures { result ≡ is_some (above_at self.now.pending (me_of self.now)) }
+    {
+        let me = self.node.member().me();
+        self.pending.above(me).is_some()
     }
 
     /// The number of packages with each letter at the node, if it is up.
@@ -134,26 +164,32 @@ impl<'a, D: Disk, P: Port> Solo<'a, D, P> {
     }
 
     /// Takes the turn; its clauses are those of `IsTurn`, one by one.
-    fn take_turn(&mut self, builds: &Packages) -> Result<Option<Act>, TurnFault>
+    fn take_turn(
+        &mut self,
+        made: Option<&Packages>,
+        initiative: Initiative,
+    ) -> Result<Option<Act>, TurnFault>
         // The node took its step on the turn's choice. The port went through exactly these calls:
-        // one receive, unless a job waited for its answer, and then the step's sends. It vouches
-        // for bytes that the node took.
+        // one receive, unless a job was answered, and then the step's sends. It vouches for bytes
+        // that the node took.
         ensures taken { IfOk result (λ o. IfSome o (λ act. HasTaken P.given P.offered P.does
-            P.vouches self.old self.new (AllBuilds builds.now) (asked_by act))) }
+            P.vouches self.old self.new (handed (option_map (λ b. b.now) made.entry) initiative)
+            (asked_by act))) }
         ensures heard { IfOk result (λ o. IfSome o
             (λ act. IsHeard P.vouches self.new.port (asked_by act))) }
 
         // There was nothing to do, and nothing was offered.
         ensures nothing { IfOk result (λ o. IfNone o
-            (IsChosen P.given P.does P.vouches self.old self.new (AllBuilds builds.now) []
-            None)) }
+            (IsChosen P.given P.does P.vouches self.old self.new
+            (handed (option_map (λ b. b.now) made.entry) initiative) [] None)) }
         ensures same { IfOk result (λ o. IfNone o
             ((self.new.node ≡ self.old.node) × (self.new.pending ≡ self.old.pending)
             × OffersNothing P.offered self.old self.new)) }
 
         // Refusals, and the state that they leave.
         ensures refused { IfErr result (IsTurnFault P.given P.does P.vouches self.old self.new
-            (AllBuilds builds.now) (LeavesAtMost D.is_kept D.history self.old self.new)) }
+            (handed (option_map (λ b. b.now) made.entry) initiative)
+            (LeavesAtMost D.is_kept D.history self.old self.new)) }
         ensures left { IfErr result (λ f. (self.new.pending ≡ self.old.pending)
             × OffersNothing P.offered self.old self.new) }
         ensures device { IfErr result (λ f. (k : _) → f ≡ refused.Down k
@@ -178,7 +214,8 @@ impl<'a, D: Disk, P: Port> Solo<'a, D, P> {
             &mut self.port,
             &self.pending,
             &mut self.unfailed,
-            builds,
+            made,
+            initiative,
         )? {
             Some(readied) => {
                 let act = take(

@@ -1,6 +1,6 @@
 mod Examples
 mod Fields
-mod FlatLines
+pub mod FlatLines
 mod Lines
 mod OneList
 mod Saying

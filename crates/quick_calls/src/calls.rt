@@ -6,23 +6,25 @@ ghost use Rattle.quick_calls.specs.Others.{AsksForOther, IsOther};
 ghost use Rattle.quick_calls.specs.Printed.{HasCarriedOut, HasPrinted, IsOutputOf};
 ghost use Rattle.quick_calls.specs.Stopped.{CannotCarryOut, HasFailed, HasStopped, RefusesCall};
 ghost use Rattle.dpbr_cli.specs.Calls.{AreTaken};
+ghost use Rattle.dpbr_cli.specs.Explaining.{explanation, release_line};
+ghost use Rattle.program_io.specs.Refusals.{memory_refusal};
 
 use dpbr_audit::audit_of_files;
-use dpbr_cli::{Call, dpbr_words};
+use dpbr_cli::{Call, dpbr_words, explanation, release_text};
 use dpbr_status::status_of_files;
 use program_io::{Answer, NamedTexts, Refusal, Stop, print};
 use std::alloc::Global;
 use std::io::Write;
 
 /// What is written to standard error if the arguments make one of the other calls.
-const OTHERS: &[u8] = b"dpbr_quick: this is the small program, of status and audit alone\n";
+const OTHERS: &[u8] = b"dpbr_quick: this is the small program, without run and wayon\n";
 
 /// Carries out the call that the arguments make, and returns the exit status:
 /// - 0;
 /// - 3 after an audit whose answer is no;
 /// - 1 after a fault, with just one line on `err`, `dpbr: fault N` or `dpbr: fault N at K`;
 /// - 2 if the arguments make no call or ask for help, after clap's text on `err`; or if they make
-///   another call than these two.
+///   another call than these.
 ///
 /// The first argument is the program's name. The whole output is made before any of it is written
 /// to `out`. If it can't be written, that is fault 2.
@@ -90,7 +92,7 @@ pub fn quick_call<T: NamedTexts, O: Write>(
 }
 
 /// Prints what the call asks for, and returns its status; or `None` if it is another call than
-/// these two.
+/// these.
 fn carry_out<T: NamedTexts, O: Write>(
     texts: &T,
     alloc: Global,
@@ -114,7 +116,7 @@ fn carry_out<T: NamedTexts, O: Write>(
     }
 }
 
-/// The output of the call, or `None` if it is another call than these two.
+/// The output of the call, or `None` if it is another call than these.
 fn answer_of_files<T: NamedTexts>(
     texts: &T,
     alloc: Global,
@@ -139,5 +141,27 @@ fn answer_of_files<T: NamedTexts>(
             is_single,
         } => Ok(Some(audit_of_files(texts, alloc, listing, list, *is_single)?)),
         Call::Run { .. } | Call::Wayon { .. } => Ok(None),
+        Call::Explain { number } => Ok(Some(explained(alloc, *number)?)),
+        Call::Release => Ok(Some(release(alloc, "dpbr")?)),
     }
+}
+
+/// The explanation of a fault.
+pub fn explained(alloc: Global, number: u16) -> Result<Answer, Refusal>
+    ensures output { IfOk result
+        (λ answer. (answer.status ≡ 0) × (answer.text.items ≡ explanation number)) }
+    ensures refused { IfErr result (λ r. r ≡ memory_refusal) }
+{
+    let text = explanation(alloc, number)?.into_bytes();
+    Ok(Answer { text, status: 0 })
+}
+
+/// A program's name and its release.
+pub fn release(alloc: Global, program: &str) -> Result<Answer, Refusal>
+    ensures output { IfOk result
+        (λ answer. (answer.status ≡ 0) × (answer.text.items ≡ release_line program.now)) }
+    ensures refused { IfErr result (λ r. r ≡ memory_refusal) }
+{
+    let text = release_text(alloc, program)?.into_bytes();
+    Ok(Answer { text, status: 0 })
 }

@@ -15,7 +15,7 @@ use Rattle.program_io.specs.declared.stop.Stop.TheVariants.{Refused, Unwritten, 
 use Rattle.replay.specs.Printed.{HasBegun}
 use Rattle.dpbr_cli.specs.Calls.{AreTaken, IsCallOf, faults_of, matched}
 use Rattle.dpbr_cli.specs.declared.Call.{Call}
-use Rattle.dpbr_cli.specs.declared.Call.TheVariants.{Audit, Run, Status, Wayon}
+use Rattle.dpbr_cli.specs.declared.Call.TheVariants.{Audit, Explain, Release, Run, Status, Wayon}
 
 -- what is reported about the texts that reads of a call's names gave
 abbrev pub RefusesCall : (Text → Text → Type 0) → Call → Refusal → Type 0
@@ -23,10 +23,12 @@ RefusesCall Gave (Status listing held is_single) r =
     RefusesStatusFiles Gave listing.now held.now is_single r
 RefusesCall Gave (Audit listing list is_single) r =
     RefusesAuditFiles Gave listing.now list.now is_single r
-RefusesCall Gave (Run listing trace is_single) r =
+RefusesCall Gave (Run listing trace is_single has_events) r =
     RefusesRunFiles Gave listing.now trace.now is_single r
 RefusesCall Gave (Wayon listing trace node path host builds is_single) r =
     RefusesWayOn Gave listing.now trace.now builds.now is_single node path.now host r
+RefusesCall Gave (Explain number) r = r ≡ memory_refusal
+RefusesCall Gave Release r = r ≡ memory_refusal
 
 -- Nothing was written before a refusal, except before one that is reported as fault 2: in that case
 -- a beginning of the output was written, maybe all of it.

@@ -12,6 +12,7 @@ use dpbr_run::run_of_files;
 use dpbr_status::status_of_files;
 use dpbr_wayon::{Target, wayon_of_files};
 use program_io::{Answer, NamedTexts, Refusal, Stop, print};
+use quick_calls::{explained, release};
 use std::alloc::Global;
 use std::io::Write;
 
@@ -123,7 +124,8 @@ fn answer_of_files<T: NamedTexts>(
             listing,
             trace,
             is_single,
-        } => run_of_files(texts, alloc, listing, trace, *is_single),
+            has_events,
+        } => run_of_files(texts, alloc, listing, trace, *is_single, *has_events),
         Call::Wayon {
             listing,
             trace,
@@ -140,5 +142,7 @@ fn answer_of_files<T: NamedTexts>(
             };
             wayon_of_files(texts, alloc, listing, trace, &target, builds, *is_single)
         }
+        Call::Explain { number } => explained(alloc, *number),
+        Call::Release => release(alloc, "dpbr"),
     }
 }

@@ -1,9 +1,10 @@
 -- How refusals of a start are reported.
-use Rattle.std.specs.Prelude.{◌≡◌, ◌⊎◌, ℕ, Option, None, Some}
+use Rattle.std.specs.Prelude.{◌≡◌, ◌⊎◌, ⊤, ℕ, Option, None, Some}
+use Rattle.run_file.specs.Looking.{IsShared}
 use Rattle.run_file.specs.declared.fault.RunFault.{RunFault}
 use Rattle.run_file.specs.declared.fault.RunFault.TheVariants.{Differs, Lost, NothingThere}
 use Rattle.run_file.specs.declared.fault.StartFault.{StartFault}
-use Rattle.run_file.specs.declared.fault.StartFault.TheVariants.{Device, Files, Memory, Run}
+use Rattle.run_file.specs.declared.fault.StartFault.TheVariants.{Device, Files, Memory, Run, Shared}
 use Rattle.stable_record.specs.declared.disk_fault.DiskFault.{DiskFault}
 use Rattle.stable_record.specs.declared.disk_fault.DiskFault.TheVariants as disk
 
@@ -24,6 +25,7 @@ abbrev pub number_of_start : StartFault → ℕ
 number_of_start Memory = 1
 number_of_start Files = 2
 number_of_start Device = 1001
+number_of_start Shared = 1210
 number_of_start (Run f) = number_of f
 
 -- the place of the refusal
@@ -31,6 +33,7 @@ abbrev pub place_of_start : StartFault → Option ℕ
 place_of_start Memory = None
 place_of_start Files = None
 place_of_start Device = None
+place_of_start Shared = None
 place_of_start (Run f) = place_of f
 
 -- how a disk's refusal is reported
@@ -41,3 +44,12 @@ told_by disk.Device = Device
 -- the system refused to read or to write, or memory ran out
 abbrev pub IsOfSystem : StartFault → Type 0
 IsOfSystem f = (f ≡ Memory) ⊎ (f ≡ Files)
+
+-- why a folder is refused: it can't be looked at, memory ran out, or others than its owner may
+-- write in it
+abbrev pub RefusesFolder : StartFault → Type 0
+RefusesFolder Memory = ⊤
+RefusesFolder Files = ⊤
+RefusesFolder Device = ⊥
+RefusesFolder Shared = (mode : ℕ) × IsShared mode
+RefusesFolder (Run f) = ⊥

@@ -57,6 +57,9 @@ pub enum StartFault {
     /// The device of the log failed.
     #[error("the device failed")]
     Device,
+    /// Others than the folder's owner may write in it.
+    #[error("others may write in the folder")]
+    Shared,
     /// The log must not be opened.
     #[error("{0}")]
     Run(RunFault),
@@ -72,6 +75,7 @@ impl Fault for StartFault {
             StartFault::Memory => 1,
             StartFault::Files => 2,
             StartFault::Device => 1001,
+            StartFault::Shared => 1210,
             StartFault::Run(fault) => fault.number(),
         }
     }
@@ -79,7 +83,9 @@ impl Fault for StartFault {
     fn place(&self) -> Option<u64> {
         match self {
             StartFault::Run(fault) => fault.place(),
-            StartFault::Memory | StartFault::Files | StartFault::Device => None,
+            StartFault::Memory | StartFault::Files | StartFault::Device | StartFault::Shared => {
+                None
+            }
         }
     }
 }

@@ -1,4 +1,4 @@
--- The letter of a unit's first package tells whether the unit is held.
+-- The letter of a unit's first package shows whether the unit is held.
 use Rattle.std.proofs.Common.{◌≡◌, ◌<◌, ◌≤◌, ◌&&◌, ◌∙◌, ℕ, false, ap, arith, filter, length, sym}
 use Rattle.std.specs.Prelude.{Contains, is_some}
 use Rattle.std.specs.FinSet.{contains-from_list_nat}
@@ -18,7 +18,7 @@ use Rattle.protocol.specs.Member.{IsMember}
 use Rattle.protocol.specs.State.{State, engine_of, holds_package, is_held, is_held_any}
 use Rattle.scheduler.specs.Held.{is_letter_held}
 
--- a letter tells whether its package is agreed
+-- a letter shows whether its package is agreed
 letter_tells : (s : State) (p : ℕ) (letter : Letter) → HasLetter (engine_of s) p letter
     → is_letter_held letter ≡ has_agreed (engine_of s) p
 letter_tells s p letters.T shown = sym shown.0
@@ -28,7 +28,7 @@ letter_tells s p letters.I shown = sym shown.0
 letter_tells s p letters.Ignored shown = sym shown.0
 
 module _ (s : State) (u : ℕ) (is : IsMember s) where
-  -- a unit that is none is not held
+  -- what is past the last unit is not held
   pub none_held : length s.division.units ≤ u → is_held s u ≡ false
   none_held past = ap (λ f. is_some f.held) (get_or_past s.facts u no_facts (omega (arith, is.each, past)))
 

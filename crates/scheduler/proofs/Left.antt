@@ -3,7 +3,7 @@ use Rattle.std.proofs.Common.{◌≡◌, Bool, true, false, None, Option, cond, 
 use Rattle.std.specs.Prelude.{◌⊎◌}
 use Rattle.faults.specs.Bytes.{Text}
 
--- where one more is taken out, each of what is left is what it was
+-- if one more is taken out, each of the others is what it was
 pub still_left : (b : Bool) (o was : Option Text) → (o ≡ None) ⊎ (o ≡ was)
     → (cond b None o ≡ None) ⊎ (cond b None o ≡ was)
 still_left true o was h = inl refl

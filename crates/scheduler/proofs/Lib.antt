@@ -1,7 +1,11 @@
 mod Among
+mod Asked
 mod HeldUnits
+mod KeptUnits
+mod Least
 mod Left
 mod Moved
-pub mod Named
-mod Seen
+mod Named
+mod Returned
+mod SeenUnits
 mod Wished

@@ -1,49 +1,52 @@
--- What is asked for is wished.
-use Rattle.std.proofs.Common.{◌≡◌, ◌<◌, ℕ, None, Option, Some, ap, inl, inr, length, subst, sym}
-use Rattle.std.specs.Prelude.{IfSome, false, is_some, nat_eq}
+-- Which wishes are claims, and which are questions.
+use Rattle.std.proofs.Common.{◌≡◌, ◌∙◌, ℕ, Bool, None, Option, Some, ap, false, inl, inr, sym, true}
+use Rattle.std.specs.Prelude.{IfSome, option_map}
 use Rattle.std.specs.declared.time.Instant.{Instant}
-use Rattle.std.proofs.lemmas.Bool.{true≢false}
-use Rattle.engine.specs.Division.{number_found}
-use Rattle.listing.specs.Tree.{path_at}
-use Rattle.faults.specs.Bytes.{Text}
-use Rattle.indexmap.specs.IndexSet.{contains}
-use Rattle.turn_rules.specs.Wishes.{IsNextAsk}
+use Rattle.protocol.specs.State.{State}
+use Rattle.turn_rules.specs.Own.{Barred, is_barred}
+use Rattle.scheduler.specs.Wishing.{IsAllowed, IsAskFrom, IsClaimWished, IsDueQuestion, IsWishOf, is_claim}
+use Rattle.scheduler.specs.declared.desk.Desk.{Desk}
+use Rattle.turn_rules.specs.Wishes.{ask_at}
 use Rattle.turn_rules.specs.declared.wish.Wish.{Wish}
 use Rattle.turn_rules.specs.declared.wish.Wish.TheVariants.{Claim, Ask}
-use Rattle.protocol.specs.State.{State}
-use Rattle.scheduler.specs.Wishing.{IsDueQuestion, IsNewClaim, IsQuestion, IsWishOf}
-use Rattle.scheduler.specs.declared.desk.Desk.{Desk}
 
--- the wish of a question with its position
-abbrev wish_in : Wish → Option (ℕ × Wish) → Wish
-wish_in wish None = wish
-wish_in wish (Some asked) = asked.1
+module _ (s : State) (d : Desk) where
+  -- a question isn't a claim
+  asked : (next : Option ℕ) (wish : Wish) → Some wish ≡ option_map (ask_at s) next
+      → is_claim (Some wish) ≡ false
+  asked None wish is = let no : ⊥ = cc in absurd no
+  asked (Some p) wish is = ap is_claim is
 
--- a question is one
-question : (s : State) (from p : ℕ) (wish : Wish) → IsNextAsk s from (Some (p, wish))
-    → (path : Text) × (wish ≡ Ask path)
-question s from p wish (None, queued, e) = absurd (true≢false (ap is_some e))
-question s from p wish (Some q, queued, e) = (path_at s.division.tree q, ap (wish_in wish) e)
+  asked_from : (from : ℕ) (wish : Wish) → IsAskFrom s d from (Some wish) → is_claim (Some wish) ≡ false
+  asked_from from wish (next, is_next, is) = asked next wish is
 
--- so is either
-asks : (s : State) (d : Desk) (wish : Wish) → IsQuestion s d wish → (path : Text) × (wish ≡ Ask path)
-asks s d wish (inl (p, next)) = question s d.next p wish next
-asks s d wish (inr (none, (p, next))) = question s 0 p wish next
+  pub question : (now : Instant) (wish : Wish) → IsDueQuestion s d now wish → is_claim (Some wish) ≡ false
+  question now wish (inl (u, first, is)) = ap is_claim (ap Some is)
+  question now wish (inr (due, inl ask)) = asked_from d.next wish ask
+  question now wish (inr (due, inr (none, ask))) = asked_from 0 wish ask
 
-module _ (s : State) (d : Desk) (now : Instant) where
-  -- a question is wished
-  asked : (wish : Wish) → IsDueQuestion s d now wish → IsWishOf s d now wish
-  asked wish due =
-      let is = asks s d wish due.1 in
-      let Holds : Wish → Type 0 = λ w. IsDueQuestion s d now w → IsWishOf s d now w in
-      subst Holds (sym is.1) (λ q. inr q) due
+  -- what is claimed is one
+  pub claim : (now : Instant) (wish : Wish) → IsClaimWished s d now wish → is_claim (Some wish) ≡ true
+  claim now wish (inl (u, anew, is)) = ap is_claim (ap Some is)
+  claim now wish (inr (place, inl (p, resumes, least, (u, number, is)))) = ap is_claim (ap Some is)
+  claim now wish (inr (place, inr (turn, p, none, least, (u, number, is)))) = ap is_claim (ap Some is)
 
-  pub is_asked : (o : Option Wish) → IfSome o (IsDueQuestion s d now) → IfSome o (IsWishOf s d now)
-  is_asked None next = next
-  is_asked (Some wish) next = asked wish next
+  -- so a question is allowed at any time
+  allowed : (gives_way : Bool) (wish : Wish) → is_claim (Some wish) ≡ false → IsAllowed s gives_way wish
+  allowed gives_way (Claim path above) same = absurd (let never : true ≡ false = same in cc)
+  allowed gives_way (Ask path) same = tt
 
-  -- what would be claimed is asked for, as long as nobody was asked
-  pub is_asked_first : (path : Text) (above u : ℕ) → length d.out.items < d.pace.jobs
-      → IsNewClaim s d now (Some (Claim path above)) → number_found s.division path ≡ Some u
-      → contains nat_eq d.asked u ≡ false → IsWishOf s d now (Ask path)
-  is_asked_first path above u few new found was = inl (above, few, new, (u, found, was))
+  pub questions_allowed : (gives_way : Bool) (now : Instant) (o : Option Wish)
+      → IfSome o (IsDueQuestion s d now) → IfSome o (IsAllowed s gives_way)
+  questions_allowed gives_way now None due = tt
+  questions_allowed gives_way now (Some wish) due = allowed gives_way wish (question now wish due)
+
+  pub questions_wished : (now : Instant) (o : Option Wish) → IfSome o (IsDueQuestion s d now)
+      → IfSome o (IsWishOf s d now)
+  questions_wished now None due = tt
+  questions_wished now (Some wish) due = inr due
+
+-- what is free has a unit
+pub has_unit_if_free : (barred : Barred) (o : Option ℕ) → is_barred barred o ≡ false → o ≡ None → ⊥
+has_unit_if_free barred None free none = let no : ⊥ = cc in no
+has_unit_if_free barred (Some u) free none = let no : ⊥ = cc in no

@@ -1,3 +1,4 @@
+pub mod Hearing
 pub mod Held
 pub mod Keeping
 pub mod Looking

@@ -1,5 +1,5 @@
 -- What a desk sees of a member's job, and what is out then.
-use Rattle.std.specs.Prelude.{◌≡◌, ◌⊎◌, ℕ, List, Option, None, Some, option_and_then}
+use Rattle.std.specs.Prelude.{◌≡◌, ◌⊎◌, ℕ, List, Option, None, Some, if◌then◌else◌, nat_eq, option_and_then}
 use Rattle.claims.specs.Job.{Task}
 use Rattle.engine.specs.Division.{number_found}
 use Rattle.program_io.specs.declared.refusal.Refusal.{Refusal}
@@ -11,7 +11,9 @@ use Rattle.job_folder.specs.Tasks.{name_of, task_of}
 use Rattle.job_folder.specs.declared.answer.Answer.{Answer}
 use Rattle.job_folder.specs.declared.answer.Answer.TheVariants as answers
 use Rattle.protocol.specs.Step.{job_of_claim}
+use Rattle.indexmap.specs.IndexSet.{contains}
 use Rattle.scheduler.specs.Posted.{with_unit}
+use Rattle.scheduler.specs.declared.desk.Desk.{Desk}
 use Rattle.scheduler.specs.declared.reading.Look.{Look}
 use Rattle.scheduler.specs.declared.reading.Look.TheVariants as looks
 use Rattle.scheduler.specs.declared.posted.Posted.{Posted}
@@ -27,9 +29,15 @@ with_job s out (Some u) (Some job) =
 with_job s out (Some u) None = out
 with_job s out None job = out
 
--- what is out then: what was, and the unit of the member's job, if it has one
-abbrev pub out_with_job : State → List Posted → List Posted
-out_with_job s out = with_job s out (unit_of_job s (job_of_claim s)) (job_of_claim s)
+-- the unit, if there is one and it wasn't returned
+abbrev pub unless_returned : Desk → Option ℕ → Option ℕ
+unless_returned d None = None
+unless_returned d (Some u) = if contains nat_eq d.returned u then None else Some u
+
+-- what is out then: what was, and the unit of the member's job, if it has one that wasn't returned
+abbrev pub out_with_job : State → Desk → List Posted
+out_with_job s d =
+    with_job s d.out.items (unless_returned d (unit_of_job s (job_of_claim s))) (job_of_claim s)
 
 -- a refusal with this number, at this place
 abbrev pub refused : ℕ → Option ℕ → Refusal

@@ -1,5 +1,5 @@
 -- What a desk keeps of what a node did.
-use Rattle.std.specs.Prelude.{◌≡◌, ◌+◌, ◌==◌, ◌⊎◌, ℕ, List, Option, None, Some, nat_eq, option_and_then, position, slice_get}
+use Rattle.std.specs.Prelude.{◌≡◌, ◌+◌, ◌++◌, ◌∷◌, ◌==◌, ◌⊎◌, ℕ, List, Option, None, Some, [], false, filter, if◌then◌else◌, nat_eq, not, option_and_then, position, slice_get}
 use Rattle.std.specs.List.{remove}
 use Rattle.turn_rules.specs.declared.act.Act.{Act}
 use Rattle.turn_rules.specs.declared.act.Act.TheVariants.{Datagram, Own}
@@ -7,18 +7,19 @@ use Rattle.engine.specs.Division.{number_found}
 use Rattle.faults.specs.Answers.{option_or}
 use Rattle.faults.specs.Bytes.{Text}
 use Rattle.indexmap.specs.IndexMap.{insert_entry}
-use Rattle.indexmap.specs.IndexSet.{insert_key}
+use Rattle.indexmap.specs.IndexSet.{contains}
 use Rattle.listing.specs.Tree.{position_of}
 use Rattle.protocol.specs.State.{State}
 use Rattle.protocol.specs.declared.input.Input.{Input}
 use Rattle.protocol.specs.declared.input.Input.TheVariants as inputs
 use Rattle.std.specs.declared.time.Instant.{Instant}
+use Rattle.scheduler.specs.Hearing.{Hears}
 use Rattle.scheduler.specs.declared.desk.Desk.{Desk}
 use Rattle.scheduler.specs.declared.posted.Posted.{Posted}
 
 -- ---- a build that failed
 
--- the unit of which the member was told that its build failed
+-- the unit whose build failed, as the member was informed
 abbrev pub unit_failed : State → Input → Option ℕ
 unit_failed s (inputs.Claim path host above) = None
 unit_failed s (inputs.Built path given) = None
@@ -54,60 +55,86 @@ abbrev pub with_name : List (ℕ × Text) → Option Posted → List (ℕ × Tex
 with_name names None = names
 with_name names (Some p) = insert_entry nat_eq names p.unit p.name
 
--- names by unit, and the unit's, as it stands among these
+-- names by unit, and that of this unit, as it is among these
 abbrev pub with_failed : List (ℕ × Text) → List Posted → Option ℕ → List (ℕ × Text)
 with_failed names posted unit = with_name names (posted_at posted (place_of posted unit))
 
 -- ---- a question
 
--- the unit for which the member asked
-abbrev pub unit_asked : State → Input → Option ℕ
-unit_asked s (inputs.Claim path host above) = None
-unit_asked s (inputs.Built path given) = None
-unit_asked s (inputs.Failed path) = None
-unit_asked s inputs.Nudge = None
-unit_asked s (inputs.Ask path) = number_found s.division path
-unit_asked s (inputs.Message m) = None
+-- the position after this one, if there is one; else the first
+abbrev pub place_after : Option ℕ → ℕ
+place_after None = 0
+place_after (Some p) = p + 1
 
--- the unit for which the node asked
-abbrev pub asked_by : State → Act → Option ℕ
-asked_by s (Own input) = unit_asked s input
-asked_by s (Datagram bytes) = None
+-- these units without this one, if it is one
+abbrev pub without_asked : List ℕ → Option ℕ → List ℕ
+without_asked units None = units
+without_asked units (Some u) = filter (λ v. not (v == u)) units
 
--- these units, and this one
-abbrev pub with_asked : List ℕ → Option ℕ → List ℕ
-with_asked units None = units
-with_asked units (Some u) = insert_key nat_eq units u
-
--- the position behind this one, if there is one; else the first
-abbrev pub behind : Option ℕ → ℕ
-behind None = 0
-behind (Some p) = p + 1
-
--- The desk keeps of a question its unit, the position behind its package, and when it was asked.
+-- The desk keeps of a question its unit, the position after its package, and when it was asked.
 abbrev pub IsQuestionKept : State → Text → Instant → Desk → Desk → Type 0
 IsQuestionKept s path now old new =
     (new.last ≡ option_or (number_found s.division path) old.last)
-    × (new.next ≡ behind (position_of s.division.tree path)) × (new.asked_at ≡ now)
+    × (new.pressing.items ≡ without_asked old.pressing.items (number_found s.division path))
+    × (new.next ≡ place_after (position_of s.division.tree path)) × (new.asked_at ≡ now)
 
 -- The last question is what it was.
 abbrev pub IsQuestionSame : Desk → Desk → Type 0
 IsQuestionSame old new =
     (new.last ≡ old.last) × (new.next ≡ old.next) × (new.asked_at ≡ old.asked_at)
 
+-- So it is, and a question is due at once for the units for which one was.
+abbrev pub IsAllSame : Desk → Desk → Type 0
+IsAllSame old new = IsQuestionSame old new × (new.pressing ≡ old.pressing)
+
+-- these units, and that which was posted, if one was
+abbrev pub with_pressing : List ℕ → Option Posted → List ℕ
+with_pressing units None = units
+with_pressing units (Some p) = units ++ p.unit ∷ []
+
+-- The last question is what it was, and one is due at once for the unit, too, if it was out.
+abbrev pub IsPressed : Desk → Option ℕ → Desk → Type 0
+IsPressed old unit new =
+    IsQuestionSame old new
+    × (new.pressing.items
+    ≡ with_pressing old.pressing.items (posted_at old.out.items (place_of old.out.items unit)))
+
 -- what the desk keeps of a question, where the member was asked to ask
 abbrev pub KeepsQuestion : State → Input → Instant → Desk → Desk → Type 0
-KeepsQuestion s (inputs.Claim path host above) now old new = IsQuestionSame old new
-KeepsQuestion s (inputs.Built path given) now old new = IsQuestionSame old new
-KeepsQuestion s (inputs.Failed path) now old new = IsQuestionSame old new
-KeepsQuestion s inputs.Nudge now old new = IsQuestionSame old new
+KeepsQuestion s (inputs.Claim path host above) now old new = IsAllSame old new
+KeepsQuestion s (inputs.Built path given) now old new = IsAllSame old new
+KeepsQuestion s (inputs.Failed path) now old new = IsPressed old (number_found s.division path) new
+KeepsQuestion s inputs.Nudge now old new = IsAllSame old new
 KeepsQuestion s (inputs.Ask path) now old new = IsQuestionKept s path now old new
-KeepsQuestion s (inputs.Message m) now old new = IsQuestionSame old new
+KeepsQuestion s (inputs.Message m) now old new = IsAllSame old new
 
--- the same, of what the node did
+-- what the desk keeps of a question, after what the node did
 abbrev pub KeepsQuestionOf : State → Act → Instant → Desk → Desk → Type 0
 KeepsQuestionOf s (Own input) now old new = KeepsQuestion s input now old new
-KeepsQuestionOf s (Datagram bytes) now old new = IsQuestionSame old new
+KeepsQuestionOf s (Datagram bytes) now old new = IsAllSame old new
+
+-- the unit that the member was asked to claim
+abbrev pub unit_claimed : State → Input → Option ℕ
+unit_claimed s (inputs.Claim path host above) = number_found s.division path
+unit_claimed s _ = None
+
+-- the unit that the node claimed
+abbrev pub claimed_by : State → Act → Option ℕ
+claimed_by s (Own input) = unit_claimed s input
+claimed_by s (Datagram bytes) = None
+
+-- What was returned is so still, except for this unit, if it is one.
+abbrev pub IsReturnedBut : Desk → Option ℕ → Desk → Type 0
+IsReturnedBut old None new = new.returned ≡ old.returned
+IsReturnedBut old (Some u) new =
+    (v : ℕ) → contains nat_eq new.returned v
+    ≡ (if nat_eq u v then false else contains nat_eq old.returned v)
+
+-- What the desk keeps of what others said, where the node took a datagram; else that stays.
+abbrev pub KeepsHeard : State → Act → Instant → Desk → Desk → Type 0
+KeepsHeard s (Own input) now old new =
+    (new.named ≡ old.named) × (new.given_back ≡ old.given_back)
+KeepsHeard s (Datagram bytes) now old new = Hears s now bytes.items old new
 
 -- ---- marks that are gone
 

@@ -1,46 +1,89 @@
 -- How long is waited, and for whom.
-use Rattle.std.specs.Prelude.{◌≡◌, ◌-◌, ◌||◌, ℕ, Bool, true, not, IfSome, None, Option, Some, if◌then◌else◌, is_some, nat_le}
+use Rattle.std.specs.Prelude.{◌≡◌, ◌-◌, ◌*◌, ◌+◌, ◌&&◌, ℕ, Bool, true, false, not, IfSome, None, Option, Some, if◌then◌else◌, is_some, min, nat_le}
 use Rattle.std.specs.Time.{instant_nanos}
 use Rattle.std.specs.declared.time.Instant.{Instant}
-use Rattle.std.specs.Duration.{as_nanos}
+use Rattle.std.specs.Duration.{as_nanos, max_nanos}
 use Rattle.std.specs.declared.time.Duration.{Duration}
-use Rattle.claims.specs.Claims.{claim_same}
+use Rattle.claims.specs.Claims.{claim_same, is_above}
 use Rattle.claims.specs.declared.claim.Claim.{Claim}
 use Rattle.turn_rules.specs.Own.{IsLeastFree}
-use Rattle.turn_rules.specs.Wishes.{is_away}
 use Rattle.protocol.specs.State.{State, facts_at}
-use Rattle.scheduler.specs.declared.away.Away.{Away}
+use Rattle.scheduler.specs.declared.seen.Seen.{Seen}
+use Rattle.scheduler.specs.declared.heard.GivenBack.{GivenBack}
+use Rattle.scheduler.specs.declared.heard.Named.{Named}
 
--- Whether so long a wait is over that began then.
+-- Whether this number of nanoseconds has passed since then.
+abbrev pub has_passed : ℕ → Instant → Instant → Bool
+has_passed nanos since now = nat_le nanos (instant_nanos now - instant_nanos since)
+
+-- Whether a wait of this length is over that began then.
 abbrev pub is_over : Duration → Instant → Instant → Bool
-is_over wait since now = nat_le (as_nanos wait) (instant_nanos now - instant_nanos since)
+is_over wait since now = has_passed (as_nanos wait) since now
 
--- by unit, under which claim it is away and since when, if it is
-abbrev pub AwayBy : Type 0
-AwayBy = ℕ → Option Away
+-- ---- since when units are promised as they are
 
--- Since when a unit is away under this claim that was so away before: since then, if that was under
--- the same claim; else since now.
-abbrev pub since_of : Option Away → Claim → Instant → Instant
-since_of None claim now = now
-since_of (Some a) claim now = if claim_same a.claim claim then a.since else now
+-- by unit, what was seen of it
+abbrev pub SeenBy : Type 0
+SeenBy = ℕ → Option Seen
 
--- The unit is away: the member promised this claim for it, which is another's. It is since when it
--- was so under that claim, or since now.
-abbrev pub IsSeen : State → AwayBy → Instant → ℕ → Away → Type 0
-IsSeen s before now u a =
-    (is_away s u ≡ true) × ((facts_at s u).promised ≡ Some a.claim)
-    × (a.since ≡ since_of (before u) a.claim now)
+-- Whether both are the same claim, or both none.
+abbrev pub is_same_promise : Option Claim → Option Claim → Bool
+is_same_promise (Some c) (Some d) = claim_same c d
+is_same_promise (Some c) None = false
+is_same_promise None (Some d) = false
+is_same_promise None None = true
 
--- all of these are
-abbrev pub AreAway : State → AwayBy → Instant → AwayBy → Type 0
-AreAway s before now seen = (u : ℕ) → IfSome (seen u) (IsSeen s before now u)
+-- Since when a unit has this promise, by what was seen of it before: since then, if it had the same
+-- one; else since now.
+abbrev pub since_of : Option Seen → Option Claim → Instant → Instant
+since_of None promised now = now
+since_of (Some seen) promised now =
+    if is_same_promise seen.promised promised then seen.since else now
 
--- Whether the unit is not away, or is among these.
-abbrev pub is_noticed : State → AwayBy → ℕ → Bool
-is_noticed s seen u = not (is_away s u) || is_some (seen u)
+-- That is what the member promised last for the unit, and since when.
+abbrev pub IsSeen : State → SeenBy → Instant → ℕ → Seen → Type 0
+IsSeen s before now u seen =
+    ((facts_at s u).promised ≡ seen.promised)
+    × (seen.since ≡ since_of (before u) seen.promised now)
 
--- These are away, and no package is queued whose unit is away and not among them.
-abbrev pub AreSeen : State → AwayBy → Instant → AwayBy → Type 0
-AreSeen s before now seen =
-    AreAway s before now seen × IsLeastFree s (is_noticed s seen) None
+-- So it is of all of these.
+abbrev pub AreSince : State → SeenBy → Instant → SeenBy → Type 0
+AreSince s before now seen = (u : ℕ) → IfSome (seen u) (IsSeen s before now u)
+
+-- Whether the unit is among these.
+abbrev pub is_seen : SeenBy → ℕ → Bool
+is_seen seen u = is_some (seen u)
+
+-- So it is of these, and no package is queued whose unit is not among them.
+abbrev pub AreSeen : State → SeenBy → Instant → SeenBy → Type 0
+AreSeen s before now seen = AreSince s before now seen × IsLeastFree s (is_seen seen) None
+
+-- Since when the unit has the promise that it has now, if it was seen with that.
+abbrev pub since_promised : Option Claim → Option Seen → Option Instant
+since_promised promised None = None
+since_promised promised (Some seen) =
+    if is_same_promise seen.promised promised then Some seen.since else None
+
+-- Whether this number of nanoseconds has passed, if it is known since when.
+abbrev pub has_waited : ℕ → Option Instant → Instant → Bool
+has_waited nanos None now = false
+has_waited nanos (Some since) now = has_passed nanos since now
+
+-- ---- what others said of units
+
+-- Whether a nay named a claim above the one that was promised, lately, so that the unit is left to
+-- that one's member.
+abbrev pub is_named : Duration → Instant → Option Claim → Option Named → Bool
+is_named wait now promised None = false
+is_named wait now promised (Some n) = is_above n.claim promised && not (is_over wait n.since now)
+
+-- the round of the claim that a nay named, or 0
+abbrev pub round_named : Option Named → ℕ
+round_named None = 0
+round_named (Some n) = n.claim.round
+
+-- That the unit was given back, if it was under the claim that was promised last.
+abbrev pub back_of : Option Claim → Option GivenBack → Option GivenBack
+back_of None back = None
+back_of (Some c) None = None
+back_of (Some c) (Some back) = if claim_same back.claim c then Some back else None

@@ -1,5 +1,5 @@
-//! What is known here of builds: which are under way, which failed, and who was asked for what.
-ghost use Rattle.std.specs.Prelude.{◌≡◌, ◌⊎◌, ◌==◌, [], IfErr, OnErr, None, false, length, nat_eq, true};
+//! What is known about builds: which are under way, which failed, and what others said of units.
+ghost use Rattle.std.specs.Prelude.{◌≡◌, ◌⊎◌, ◌==◌, [], IfErr, OnErr, None, false, filter, length, nat_eq, not, true};
 ghost use Rattle.std.specs.List.{Any};
 ghost use Rattle.scheduler.specs.Keeping.{IsSameButFailed, IsSameButSeen};
 ghost use Rattle.scheduler.specs.Posted.{not_held};
@@ -7,17 +7,21 @@ ghost use Rattle.scheduler.specs.Taking.{AreLeft};
 ghost use Rattle.scheduler.specs.Waiting.{AreSeen};
 ghost use Rattle.scheduler.specs.Wishing.{HasMore, is_for};
 ghost use Rattle.indexmap.specs.IndexMap.{get};
-ghost use Rattle.protocol.specs.State.{is_held_any};
+ghost use Rattle.protocol.specs.State.{is_held, is_held_any};
 ghost use Rattle.job_folder.specs.Refusals.{IsOfSystem};
 
 mod free;
+mod hearing;
 mod looking;
+mod returning;
 mod taking;
 mod wishes;
 
-use crate::away::{Away, seen_away};
+use crate::heard::{GivenBack, Named};
 use crate::pace::{Pace, is_over};
-use crate::posted::{Posted, forget_held, is_held};
+use crate::posted::{Posted, forget_held, forget_held_units, is_held};
+use crate::seen::{Seen, seen_units};
+use crate::sought::Sought;
 use crate::wishing::is_for;
 use faults::Memory;
 use indexmap::{IndexMap, IndexSet};
@@ -25,44 +29,71 @@ use job_folder::{Folder, Name, WorkFault};
 use member::Member;
 use std::alloc::Global;
 use std::time::{Duration, Instant};
-use turn_rules::Wish;
 
-/// How often it is looked at what is away, in milliseconds.
+/// How long a look at the promises of queued units serves, in milliseconds, if there are few.
 const LOOK: u64 = 200;
 
-/// What is known here of builds. Of a unit that is held, the job and what came of it are taken out
-/// of the folder by whoever builds there, and not by a desk.
+/// For how many queued units a look serves a millisecond longer.
+const MANY: usize = 16;
+
+/// What is known about builds. The builder, and not the desk, removes the job and the result of a
+/// unit that is held.
 #[derive(Drop)]
 pub struct Desk<'f> {
     folder: Folder<'f>,
     pace: Pace,
-    /// Handed out, and neither failed nor held.
+    /// The jobs that are handed out, and neither failed nor held.
     out: Vec<Posted>,
-    /// What failed here: by unit, the name of its job.
+    /// The builds that failed here: by unit, the name of its job.
     failed: IndexMap<u32, Name>,
-    /// The units for which the others were asked.
-    asked: IndexSet<u32>,
-    /// The position behind that of the last question.
+    /// Whether this node is catching up: since its start the others may have agreed on much that it
+    /// hasn't heard of. It asks and claims nothing, until a question had a slot's time and no
+    /// answer.
+    is_catching_up: bool,
+    /// Whether this host takes no jobs at the moment.
+    holds_off: bool,
+    /// The units that this host gave back since it took no jobs: none of them is handed out before
+    /// it is claimed anew.
+    returned: IndexSet<u32>,
+    /// The units for which a question is due at once, since they are built here no more.
+    pressing: Vec<u32>,
+    /// Whether units may be left that were this member's before its start.
+    resumes: bool,
+    /// If this node started late, the units that were queued when it had caught up: others may have
+    /// claimed them before its start.
+    early: IndexSet<u32>,
+    /// The position after that of the last question.
     next: u32,
     /// The unit of the last question.
     last: Option<u32>,
     asked_at: Instant,
-    /// The least unit that may be claimed, and since when it is that.
-    least: Option<(u32, Instant)>,
-    /// What is away, by unit, as it was seen last.
-    away: IndexMap<u32, Away>,
+    /// The queued units, as they were seen last.
+    seen: IndexMap<u32, Seen>,
     looked_at: Instant,
+    /// By unit, which other member's claim a nay named last.
+    named: IndexMap<u32, Named>,
+    /// By unit, under which claim it was given back last.
+    given_back: IndexMap<u32, GivenBack>,
 }
 
 impl<'f> Desk<'f> {
-    /// Nothing is handed out yet.
-    pub fn new(alloc: Global, folder: Folder<'f>, pace: Pace, now: Instant) -> Desk<'f>
+    /// Nothing is handed out yet. A node whose log has notes ran before.
+    pub fn new(
+        alloc: Global,
+        folder: Folder<'f>,
+        pace: Pace,
+        has_notes: bool,
+        now: Instant,
+    ) -> Desk<'f>
         ensures out { result.out.items ≡ [] }
         ensures failed { result.failed.entries ≡ [] }
-        ensures asked { result.asked.keys ≡ [] }
-        ensures away { result.away.entries ≡ [] }
-        ensures next { result.next ≡ 0 }
-        ensures last { result.last ≡ None }
+        ensures catching_up { (result.is_catching_up ≡ true) × (result.resumes ≡ has_notes)
+            × (result.early.keys ≡ []) }
+        ensures seen { result.seen.entries ≡ [] }
+        ensures heard { (result.named.entries ≡ []) × (result.given_back.entries ≡ []) }
+        ensures question { (result.next ≡ 0) × (result.last ≡ None)
+            × (result.pressing.items ≡ []) }
+        ensures takes { (result.holds_off ≡ false) × (result.returned.keys ≡ []) }
         ensures pace { result.pace ≡ pace }
     {
         Desk {
@@ -70,13 +101,19 @@ impl<'f> Desk<'f> {
             pace,
             out: Vec::new(alloc),
             failed: IndexMap::new(alloc),
-            asked: IndexSet::new(alloc),
+            is_catching_up: true,
+            holds_off: false,
+            returned: IndexSet::new(alloc),
+            pressing: Vec::new(alloc),
+            resumes: has_notes,
+            early: IndexSet::new(alloc),
             next: 0,
             last: None,
             asked_at: now,
-            least: None,
-            away: IndexMap::new(alloc),
+            seen: IndexMap::new(alloc),
             looked_at: now,
+            named: IndexMap::new(alloc),
+            given_back: IndexMap::new(alloc),
         }
     }
 
@@ -87,7 +124,7 @@ impl<'f> Desk<'f> {
         self.out.is_empty()
     }
 
-    /// Whether the unit that was asked for last came to be held.
+    /// Whether the unit of the last question is held now.
     pub fn is_hit(&self, member: &Member<'_>) -> bool
         ensures { result ≡ is_held_any member.now self.now.last }
     {
@@ -97,8 +134,8 @@ impl<'f> Desk<'f> {
         }
     }
 
-    /// Whether something is built here: a job is out that has no answer, and whose unit's claim
-    /// isn't the open one. What the system refuses to tell counts as no answer.
+    /// Whether something is being built here: a job is out that has no answer, and its unit's claim
+    /// isn't the open one. If the system refuses to say, the job counts as one without an answer.
     pub fn is_building(&self, rt: &HostRuntime, member: &Member<'_>) -> bool
         ensures { result ≡ true
             → Any (λ p. is_for member.now.claim p.unit ≡ false) self.now.out.items }
@@ -114,48 +151,76 @@ impl<'f> Desk<'f> {
         false
     }
 
-    /// Forgets what came to be held, and looks at what may be claimed and, now and then, at what is
-    /// away. It fails only for want of memory.
+    /// Forgets what is held now, checks whether the node has caught up, and looks now and then at
+    /// the promises of queued units. Fails only if memory runs out.
     pub fn tick(&mut self, member: &Member<'_>, now: Instant) -> Result<(), Memory>
         ensures out { self.new.out.items ≡ not_held member.now self.old.out.items }
-        ensures away { (self.new.away ≡ self.old.away)
-            ⊎ AreSeen member.now (get nat_eq self.old.away) now (get nat_eq self.new.away) }
+        ensures pressing { self.new.pressing.items
+            ≡ filter (λ u. not (is_held member.now u)) self.old.pressing.items }
+        ensures seen { (self.new.seen ≡ self.old.seen)
+            ⊎ AreSeen member.now (get nat_eq self.old.seen) now (get nat_eq self.new.seen) }
+        ensures catching_up { self.old.is_catching_up ≡ false
+            → (self.new.is_catching_up ≡ false) × (self.new.early ≡ self.old.early) }
+        ensures resumes { self.old.resumes ≡ false → self.new.resumes ≡ false }
         ensures rest { IsSameButSeen self.old self.new }
     {
         forget_held(&mut self.out, member);
-        self.least = self.least_since(member, now)?;
-        if !is_over(Duration::from_millis(LOOK), self.looked_at, now) {
-            return Ok(());
+        forget_held_units(&mut self.pressing, member);
+        if self.is_catching_up && self.has_caught_up(member, now) {
+            if self.is_late(member) {
+                self.early = queued_units(*self.failed.allocator(), member)?;
+            }
+            self.is_catching_up = false;
         }
-        let alloc = *self.asked.allocator();
-        self.away = seen_away(alloc, member, &self.away, now)?;
-        self.looked_at = now;
+        self.resumes = self.resumes && self.may_resume(member);
+        if is_over(self.look_wait(), self.looked_at, now) {
+            self.seen = seen_units(*self.failed.allocator(), member, &self.seen, now)?;
+            self.looked_at = now;
+        }
         Ok(())
     }
 
-    /// The least unit that may be claimed, and since when it is that.
-    fn least_since(
-        &self,
-        member: &Member<'_>,
-        now: Instant,
-    ) -> Result<Option<(u32, Instant)>, Memory> {
-        let Some(Wish::Claim { path, .. }) = self.least_claim(member, now)? else {
-            return Ok(None);
-        };
-        let Some(unit) = member.units().find(&path) else {
-            return Ok(None);
-        };
-        match self.least {
-            Some((before, since)) if before == unit => Ok(Some((unit, since))),
-            _ => Ok(Some((unit, now))),
-        }
+    /// Whether it has caught up. Either there is nobody to ask; or a slot's time passed since the
+    /// last question, or since the start, and either the unit of that question isn't held or there
+    /// is nothing to ask for.
+    fn has_caught_up(&self, member: &Member<'_>, now: Instant) -> bool {
+        member.weights().len() == 1
+            || is_over(self.pace.slot, self.asked_at, now) && self.is_nothing_new(member)
+    }
+
+    /// Whether the last question was answered with nothing new, or there is nothing to ask for: a
+    /// node that has all but what it built itself before its start has nobody to ask.
+    fn is_nothing_new(&self, member: &Member<'_>) -> bool {
+        !self.is_hit(member) || self.next_asked(member, 0).is_none()
+    }
+
+    /// Whether others may have claimed units before this node started: it ran before, or something
+    /// is held already.
+    fn is_late(&self, member: &Member<'_>) -> bool {
+        let counts = member.counts();
+        self.resumes || counts.i > 0 || counts.b > 0
+    }
+
+    /// Whether units may be left that were this member's before its start.
+    fn may_resume(&self, member: &Member<'_>) -> bool {
+        self.is_catching_up || self.least_of(member, None, Sought::Mine).is_some()
+    }
+
+    /// How long a look at the promises of queued units serves.
+    fn look_wait(&self) -> Duration {
+        Duration::from_millis(LOOK).saturating_add(self.look_delay())
+    }
+
+    /// By how much longer the last look serves, because a look at many units takes long.
+    pub(crate) fn look_delay(&self) -> Duration {
+        Duration::from_millis((self.seen.len() / MANY) as u64)
     }
 
     /// Forgets the failed builds whose marks are gone.
     ///
     /// # Errors
     ///
-    /// Memory; what the system refused. Nothing is forgotten then.
+    /// Out of memory; what the system refused. Then nothing is forgotten.
     pub fn retry(&mut self, rt: &HostRuntime) -> Result<(), WorkFault>
         ensures failed { AreLeft (get nat_eq self.old.failed) (get nat_eq self.new.failed) }
         ensures rest { IsSameButFailed self.old self.new }
@@ -169,7 +234,7 @@ impl<'f> Desk<'f> {
         Ok(())
     }
 
-    /// The units of which a build failed whose mark is gone.
+    /// The units of failed builds whose marks are gone.
     fn unmarked(&self, rt: &HostRuntime) -> Result<Vec<u32>, WorkFault>
         ensures { IfErr result IsOfSystem }
     {
@@ -182,12 +247,12 @@ impl<'f> Desk<'f> {
         Ok(units)
     }
 
-    /// Whether a package is queued whose unit neither is out nor failed and has a round left, be it
-    /// away or not.
+    /// Whether a package is queued whose unit is neither out nor failed and has a round left. It
+    /// may be left to other members.
     pub fn has_more(&self, member: &Member<'_>) -> bool
         ensures { HasMore member.now self.now result }
     {
-        self.least_free(member, None).is_some()
+        self.least_of(member, None, Sought::Any).is_some()
     }
 }
 
@@ -195,4 +260,20 @@ impl<'f> Desk<'f> {
 fn note(units: &mut Vec<u32>, unit: u32) -> Result<(), Memory> {
     units.push(unit)?;
     Ok(())
+}
+
+/// The units that are queued.
+fn queued_units(alloc: Global, member: &Member<'_>) -> Result<IndexSet<u32>, Memory> {
+    let mut units = IndexSet::new(alloc);
+    let mut from = 0;
+    for _ in 0..member.tree().len() {
+        let Some(position) = member.queued_from(from) else {
+            return Ok(units);
+        };
+        if let Some(unit) = member.units().unit_of(position) {
+            units.insert(unit)?;
+        }
+        from = position + 1;
+    }
+    Ok(units)
 }

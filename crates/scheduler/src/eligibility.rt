@@ -1,4 +1,4 @@
-//! What is wished of a node that builds with others.
+//! Which units a node may claim, and which it asks for.
 ghost use Rattle.std.specs.Prelude.{◌≡◌, ◌<◌, IfOk, length};
 ghost use Rattle.turn_rules.specs.Own.{IsLeastFree, is_barred};
 ghost use Rattle.engine.specs.Division.{number_of};
@@ -18,8 +18,8 @@ use faults::Memory;
 use member::Member;
 use turn_rules::Wish;
 
-/// The wish to claim the least queued package whose unit is not among these, nor away, unless it is
-/// to be taken over; and for which a round is left. It fails only for want of memory.
+/// The wish to claim the first queued package whose unit may be claimed: it is not among these, a
+/// round is left for it, and it is not away, or is to be taken over. Fails only if memory runs out.
 pub fn least_claim(
     member: &Member<'_>,
     barred: &[u32],
@@ -38,8 +38,8 @@ pub fn least_claim(
     }
 }
 
-/// The wish to ask for the least package that is queued, at or behind this position, with its
-/// position. It fails only for want of memory.
+/// The wish to ask for the first package that is queued, at this position or after it, with its
+/// position. Fails only if memory runs out.
 pub fn next_ask(member: &Member<'_>, from: u32) -> Result<Option<(u32, Wish)>, Memory>
     ensures { IfOk result (IsNextAsk member.now from) }
 {
@@ -52,7 +52,7 @@ pub fn next_ask(member: &Member<'_>, from: u32) -> Result<Option<(u32, Wish)>, M
     }
 }
 
-/// The least queued position whose unit may be claimed.
+/// The first queued position whose unit may be claimed.
 fn least_free(member: &Member<'_>, barred: &[u32], over: &[u32]) -> Option<u32>
     ensures { IsLeastFree member.now (barred_by member.now barred.now over.now) result }
 {
@@ -79,8 +79,7 @@ fn is_barred(member: &Member<'_>, barred: &[u32], over: &[u32], position: u32) -
     }
 }
 
-/// Whether the unit is among those that are barred; or is away, and not among those that are to be
-/// taken over; or no round is left for it.
+/// Whether the unit is barred; or is away and not to be taken over; or no round is left for it.
 fn is_barred_by(member: &Member<'_>, barred: &[u32], over: &[u32], unit: u32) -> bool
     requires { unit < length member.now.division.units }
     ensures { result ≡ barred_by member.now barred.now over.now unit }
@@ -101,7 +100,7 @@ fn promised_round(member: &Member<'_>, position: u32) -> u64
     }
 }
 
-/// Whether the last claim that the member promised for the unit is another's: that one builds it,
+/// Whether the last claim that the member promised for the unit is another member's, who builds it
 /// or did.
 pub fn is_away(member: &Member<'_>, unit: u32) -> bool
     requires { unit < length member.now.division.units }
@@ -113,8 +112,8 @@ pub fn is_away(member: &Member<'_>, unit: u32) -> bool
     }
 }
 
-/// Whether the last claim that the member promised for the unit has the greatest round there is:
-/// nobody can claim the unit any more.
+/// Whether the last claim that the member promised for the unit has the greatest possible round, so
+/// that nobody can claim the unit any more.
 pub fn is_spent(member: &Member<'_>, unit: u32) -> bool
     requires { unit < length member.now.division.units }
     ensures { result ≡ is_spent member.now unit }

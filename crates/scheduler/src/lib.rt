@@ -2,12 +2,14 @@
 //! what it claims or asks for, and when.
 #![tactic(auto)]
 
-mod away;
 mod desk;
 mod eligibility;
+mod heard;
 mod pace;
 mod posted;
 mod reading;
+mod seen;
+mod sought;
 mod wishing;
 
 pub use crate::desk::Desk;

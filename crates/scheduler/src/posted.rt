@@ -1,5 +1,5 @@
 //! Jobs that are out.
-ghost use Rattle.std.specs.Prelude.{◌≡◌, ◌++◌, ◌==◌, ◌∷◌, [], if◌then◌else◌, is_ok, position};
+ghost use Rattle.std.specs.Prelude.{◌≡◌, ◌++◌, ◌==◌, ◌∷◌, [], filter, if◌then◌else◌, is_ok, not, position};
 ghost use Rattle.scheduler.specs.Held.{is_letter_held};
 ghost use Rattle.scheduler.specs.Posted.{has_unit, not_held};
 ghost use Rattle.protocol.specs.State.{is_held};
@@ -9,7 +9,7 @@ use faults::Memory;
 use job_folder::Name;
 use member::Member;
 
-/// What is to be built, by its unit and by its name.
+/// A job that is out: its unit and its name.
 #[derive(Drop)]
 pub(crate) struct Posted {
     pub unit: u32,
@@ -39,11 +39,18 @@ pub(crate) fn push(all: &mut Vec<Posted>, posted: Posted) -> Result<(), Memory>
     Ok(())
 }
 
-/// Leaves those whose units are not held.
+/// Keeps those whose units are not held.
 pub(crate) fn forget_held(all: &mut Vec<Posted>, member: &Member<'_>)
     ensures { all.new.items ≡ not_held member.now all.old.items }
 {
     all.retain(|posted| !is_held(member, posted.unit));
+}
+
+/// Keeps the units that are not held.
+pub(crate) fn forget_held_units(units: &mut Vec<u32>, member: &Member<'_>)
+    ensures { units.new.items ≡ filter (λ u. not (is_held member.now u)) units.old.items }
+{
+    units.retain(|unit| !is_held(member, *unit));
 }
 
 /// Whether the unit of this number is held.

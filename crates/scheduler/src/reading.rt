@@ -1,4 +1,4 @@
-//! What there is of a build.
+//! The state of a build.
 ghost use Rattle.std.specs.Prelude.{◌≡◌, IfErr, IfOk};
 ghost use Rattle.scheduler.specs.Looking.{IsRead, IsSeenOf};
 ghost use Rattle.job_folder.specs.declared.fault.WorkFault.TheVariants.{Memory};
@@ -9,20 +9,20 @@ use protocol::Packages;
 use std::alloc::Global;
 use traces::{TraceFault, read_builds};
 
-/// What there is of the build for which a node's job waits.
+/// The state of the build for a node's job.
 #[derive(Drop)]
 pub enum Look {
-    /// Nothing yet, or there is no job.
+    /// There is no result yet, or no job.
     NotYet,
-    /// That it failed.
+    /// It failed.
     Failed,
-    /// What was handed in, by package path.
+    /// The result, by package path.
     Made(Packages),
-    /// Something was handed in that makes no build, and why.
+    /// The result is malformed, and why.
     Bad(Refusal),
 }
 
-/// What an answer is, read as what it names. It fails only for want of memory.
+/// Reads an answer. Fails only if memory runs out.
 pub(crate) fn looked(alloc: Global, answer: Answer) -> Result<Look, WorkFault>
     ensures seen { IfOk result (IsSeenOf answer) }
     ensures refused { IfErr result (λ f. f ≡ Memory) }
@@ -38,7 +38,7 @@ pub(crate) fn looked(alloc: Global, answer: Answer) -> Result<Look, WorkFault>
     }
 }
 
-/// What was made, as the text names it. It fails only for want of memory.
+/// Reads the text of a result. Fails only if memory runs out.
 fn read(alloc: Global, text: &[u8]) -> Result<Look, WorkFault>
     ensures read { IfOk result (IsRead text.now) }
     ensures refused { IfErr result (λ f. f ≡ Memory) }

@@ -1,19 +1,21 @@
 //! When a unit is claimed, above which round, and what is asked for.
-ghost use Rattle.std.specs.Prelude.{◌≡◌, ◌<◌, IfOk, IfSome, length};
+ghost use Rattle.std.specs.Prelude.{◌≡◌, ◌<◌, IfOk, Some, length, max};
 ghost use Rattle.scheduler.specs.Wishing.{
-  IsAskFrom,
-  claim_of_unit,
   has_rounds,
   is_for,
+  is_mine,
   may_claim,
+  turn_after,
   turn_of,
   waits_for,
 };
 ghost use Rattle.engine.specs.Division.{number_of};
-ghost use Rattle.turn_rules.specs.Wishes.{claim_at, promised_round, round_of};
-ghost use Rattle.protocol.specs.State.{facts_at};
+ghost use Rattle.listing.specs.Tree.{path_at};
+ghost use Rattle.turn_rules.specs.Wishes.{ask_at, round_of};
+ghost use Rattle.turn_rules.specs.declared.wish.Wish.TheVariants.{Ask, Claim as ClaimWish};
+ghost use Rattle.protocol.specs.State.{facts_at, name_at};
 
-use crate::{is_spent, next_ask};
+use crate::is_spent;
 use ballots::Claimer;
 use claims::Claim;
 use faults::Memory;
@@ -64,38 +66,33 @@ pub(crate) fn has_rounds(member: &Member<'_>, unit: u32) -> bool
     unit < member.units().len() && !is_spent(member, unit)
 }
 
-/// The claim for the unit of this number, above what the member promised.
-pub(crate) fn claim_of(member: &Member<'_>, unit: u32) -> Result<Option<Wish>, Memory>
-    ensures { IfOk result (λ o. IfSome o (λ wish. wish ≡ claim_of_unit member.now unit)) }
+/// The claim for the unit of this number, above what the member promised and above this round.
+pub(crate) fn claim_of(member: &Member<'_>, unit: u32, above: u64) -> Result<Wish, Memory>
+    requires { unit < length member.now.division.units }
+    ensures { IfOk result (λ wish. wish ≡ ClaimWish (name_at member.now unit)
+        (max (round_of (facts_at member.now unit).promised) above)) }
 {
-    let units = member.units();
-    if unit >= units.len() {
-        return Ok(None);
-    }
-    let above = round_promised(member, unit);
-    let path = units.name(unit).copy()?;
-    Ok(Some(Wish::Claim { path, above }))
-}
-
-/// The claim for the unit of the package at the position, above what the member promised.
-pub(crate) fn claim_at(member: &Member<'_>, position: u32) -> Result<Wish, Memory>
-    requires { position < length member.now.division.tree }
-    ensures { IfOk result (λ wish. wish ≡ claim_at member.now position) }
-{
-    let path = member.tree().path(position).copy()?;
-    let above = promised_round(member, position);
+    let above = round_promised(member, unit).max(above);
+    let path = member.units().name(unit).copy()?;
     Ok(Wish::Claim { path, above })
 }
 
-/// The round of the last claim that the member promised for the package's unit, or 0.
-fn promised_round(member: &Member<'_>, position: u32) -> u64
-    requires { position < length member.now.division.tree }
-    ensures { result ≡ promised_round member.now (number_of member.now.division position) }
+/// The claim for the unit of the package at the position, above what the member promised and above
+/// this round.
+pub(crate) fn claim_at(
+    member: &Member<'_>,
+    position: u32,
+    unit: u32,
+    above: u64,
+) -> Result<Wish, Memory>
+    requires there { position < length member.now.division.tree }
+    requires unit { unit < length member.now.division.units }
+    ensures { IfOk result (λ wish. wish ≡ ClaimWish (path_at member.now.division.tree position)
+        (max (round_of (facts_at member.now unit).promised) above)) }
 {
-    match member.units().unit_of(position) {
-        Some(unit) => round_promised(member, unit),
-        None => 0,
-    }
+    let above = round_promised(member, unit).max(above);
+    let path = member.tree().path(position).copy()?;
+    Ok(Wish::Claim { path, above })
 }
 
 /// The round of the last claim that the member promised for the unit, or 0.
@@ -117,21 +114,56 @@ pub(crate) fn promised(member: &Member<'_>, unit: u32) -> Option<Claim>
     member.promised(member.units().name(unit))
 }
 
-/// The wish to ask for the least package that is queued, at or behind this position.
-pub(crate) fn ask_from(member: &Member<'_>, from: u32) -> Result<Option<Wish>, Memory>
-    ensures { IfOk result (IsAskFrom member.now from) }
+/// Whether the member promised the unit to its own claim last.
+pub(crate) fn is_mine(member: &Member<'_>, unit: u32) -> bool
+    requires { unit < length member.now.division.units }
+    ensures { result ≡ is_mine member.now unit }
 {
-    match next_ask(member, from)? {
-        Some((_position, wish)) => Ok(Some(wish)),
-        None => Ok(None),
+    match promised(member, unit) {
+        Some(claim) => claim.member == member.me(),
+        None => false,
     }
 }
 
-/// The member's turn among those that may claim the unit, counted from 1: members claim one unit at
-/// different times, each unit in another order.
+/// The question for the package at the position.
+pub(crate) fn ask_at(member: &Member<'_>, position: u32) -> Result<Wish, Memory>
+    requires { position < length member.now.division.tree }
+    ensures { IfOk result (λ wish. wish ≡ ask_at member.now position) }
+{
+    let path = member.tree().path(position).copy()?;
+    Ok(Wish::Ask { path })
+}
+
+/// The question for the unit of this number.
+pub(crate) fn ask_for(member: &Member<'_>, unit: u32) -> Result<Wish, Memory>
+    requires { unit < length member.now.division.units }
+    ensures { IfOk result (λ wish. wish ≡ Ask (name_at member.now unit)) }
+{
+    let path = member.units().name(unit).copy()?;
+    Ok(Wish::Ask { path })
+}
+
+/// The member's place among those that may claim the unit, counted from 0: each unit begins with
+/// another member.
 pub(crate) fn turn_of(member: &Member<'_>, unit: u32) -> u32
     ensures { result ≡ turn_of member.now unit }
 {
     let members = member.weights().len() as u32;
-    (u32::from(member.me()) + unit % members) % members + 1
+    (u32::from(member.me()) + unit % members) % members
+}
+
+/// Its place once this member gave the unit back, who comes last then.
+pub(crate) fn turn_after(member: &Member<'_>, unit: u32, giver: u8) -> u32
+    ensures { result ≡ turn_after member.now unit giver }
+{
+    let members = member.weights().len() as u32;
+    let me = member.me();
+    if members < 2 {
+        return 0;
+    }
+    if me == giver {
+        return members - 1;
+    }
+    let distance = (u32::from(me) + members).saturating_sub(u32::from(giver) + 1);
+    (distance % members + unit % (members - 1)) % (members - 1)
 }

@@ -1,5 +1,5 @@
 -- The step of a node in a world's state is one of the world.
-use Rattle.std.proofs.Common.{◌≡◌, ◌⊎◌, ◌<◌, ◌&&◌, ℕ, Bool, true, false, not, nat_le, List, length, map, None, Some, Result, Ok, Err, Vec, IfErr, OnErr, OnOk, slice_get, slice_set, slice_index_or, refl, sym, ap, subst, ◌∙◌, arith, inl, inr, ⊎_elim, true≢false}
+use Rattle.std.proofs.Common.{◌≡◌, ◌⊎◌, ◌<◌, ◌&&◌, ℕ, Bool, true, false, not, nat_le, List, [], length, map, None, Some, Result, Ok, Err, Vec, IfErr, IfOk, OnErr, slice_get, slice_set, slice_index_or, refl, sym, ap, subst, ◌∙◌, arith, inl, inr, ⊎_elim, true≢false}
 use Rattle.std.specs.declared.alloc.Global.{Global}
 use Rattle.std.proofs.lemmas.Bool.{leb-false}
 use Rattle.std.proofs.lemmas.List.{length-map, map-set}
@@ -20,11 +20,13 @@ use Rattle.node.specs.declared.fault.NodeFault.TheVariants as fault
 use Rattle.package_record.specs.Content.{Content}
 use Rattle.stable_record.specs.InMemory.{mem_history}
 use Rattle.stable_record.specs.declared.mem_disk.MemDisk.{MemDisk}
-use Rattle.world.specs.Happening.{Acts, Happens, IsRefusedByNode, IsUp, Steps, Stops, fault_before, is_bad_stop, is_restart, is_up, lacks_datagram, leaves_note, up_of}
+use Rattle.world.specs.Happening.{Acts, IsRefusedByNode, IsUp, Steps, Stops, fault_before, is_bad_stop, is_restart, is_up, lacks_datagram, leaves_note, up_of}
 use Rattle.world.specs.Lists.{IsListAfter}
 use Rattle.world.specs.Sent.{with_sends}
 use Rattle.world.specs.World.{World, WorldNode, member_at, node_at, up_node, with_node}
 use Rattle.world.specs.declared.fault.WorldFault.TheVariants as worlds
+use Rattle.simulator.specs.Effects.{Does, IsDoneBy, StepDoes}
+use Rattle.simulator.specs.declared.event_effects.EventEffects.{EventEffects}
 use Rattle.simulator.specs.declared.slot.Slot.{Slot}
 use Rattle.simulator.specs.declared.slot.Slot.TheVariants.{Down, Up}
 use Rattle.simulator.specs.declared.world_state.WorldState.{WorldState}
@@ -125,9 +127,9 @@ module _ (s t : WorldState) (k : ℕ) (x : Slot) (is : IsWith s t k x) where
   }
 
 -- what a step leaves, taken or not
-pub record IsLeft (s : WorldState) (e : Event) (t : WorldState) (r : Result (Unit {0}) NodeFault) :
-    Type 0 where
-  pub taken : OnOk r (Steps (world_of s) e (world_of t))
+pub record IsLeft (s : WorldState) (e : Event) (t : WorldState)
+    (r : Result EventEffects NodeFault) : Type 0 where
+  pub does : IfOk r (StepDoes (world_of s) e (world_of t))
   pub same : OnErr r (world_of t ≡ world_of s)
   pub refused : IfErr r
       (λ f. (f ≡ fault.Memory) ⊎ IsRefusedByNode (world_of s) e (refused_by f))
@@ -216,32 +218,36 @@ stop_is_down s e n is standing may nodes stopped =
     (with_nodes s nodes) (record { tree = refl; units = refl; weights = refl; tables = refl })
     stopped
 
-pub stop_happens : (s : WorldState) (e : declared.Event) (n : ℕ) → e ≡ declared.Stop n
+pub stop_does : (s : WorldState) (e : declared.Event) (n : ℕ) → e ≡ declared.Stop n
     → IsStanding s → fault_before (world_of s) (event_view e) ≡ None → (nodes : Vec Slot Global)
-    → IsStopped s.nodes.items nodes.items n
-    → Happens (world_of s) (event_view e) (world_of (with_nodes s nodes))
-stop_happens s e n is standing may nodes stopped =
-    subst (λ z. Happens (world_of s) (event_view z) (world_of (with_nodes s nodes))) (sym is)
-    (stop_is_down s e n is standing may nodes stopped).stops
+    → IsStopped s.nodes.items nodes.items n → (done : EventEffects) → IsDoneBy None [] done
+    → Does (world_of s) (event_view e) (world_of (with_nodes s nodes)) done
+stop_does s e n is standing may nodes stopped done nothing =
+    subst (λ z. Does (world_of s) (event_view z) (world_of (with_nodes s nodes)) done) (sym is)
+    (record {
+      stops = (stop_is_down s e n is standing may nodes stopped).stops;
+      is_done = nothing;
+    })
 
 -- ---- a step that may be taken
 
--- which happens so
-pub steps_happen : (w v : World) (e : Event) → is_step e ≡ true → Steps w e v → Happens w e v
-steps_happen w v (events.Claim n path host above) is s = s
-steps_happen w v (events.Built n path files) is s = s
-steps_happen w v (events.Failed n path) is s = s
-steps_happen w v (events.Nudge n) is s = s
-steps_happen w v (events.Ask n path) is s = s
-steps_happen w v (events.Deliver d n) is s = s
-steps_happen w v (events.Stop n) is s = absurd (true≢false (sym is))
-steps_happen w v (events.StopIn e l) is s = absurd (true≢false (sym is))
-steps_happen w v (events.Restart n) is s = absurd (true≢false (sym is))
+-- which does so
+steps_do : (w v : World) (e : Event) → is_step e ≡ true → (done : EventEffects)
+    → StepDoes w e v done → Does w e v done
+steps_do w v (events.Claim n path host above) is done s = s
+steps_do w v (events.Built n path files) is done s = s
+steps_do w v (events.Failed n path) is done s = s
+steps_do w v (events.Nudge n) is done s = s
+steps_do w v (events.Ask n path) is done s = s
+steps_do w v (events.Deliver d n) is done s = s
+steps_do w v (events.Stop n) is done s = absurd (true≢false (sym is))
+steps_do w v (events.StopIn e l) is done s = absurd (true≢false (sym is))
+steps_do w v (events.Restart n) is done s = absurd (true≢false (sym is))
 
-pub ok_steps_happen : (w v : World) (e : Event) → is_step e ≡ true
-    → (r : Result (Unit {0}) NodeFault) → OnOk r (Steps w e v) → OnOk r (Happens w e v)
-ok_steps_happen w v e is (Ok u) s = steps_happen w v e is s
-ok_steps_happen w v e is (Err f) s = tt
+pub ok_steps_do : (w v : World) (e : Event) → is_step e ≡ true
+    → (r : Result EventEffects NodeFault) → IfOk r (StepDoes w e v) → IfOk r (Does w e v)
+ok_steps_do w v e is (Ok done) s = steps_do w v e is done s
+ok_steps_do w v e is (Err f) s = tt
 
 module _ (s : WorldState) (e : Event) (standing : IsStanding s) (reached : IsReached (world_of s))
     (may : fault_before (world_of s) e ≡ None) (is_a_step : is_step e ≡ true) where
@@ -312,8 +318,9 @@ module _ (s : WorldState) (e : Event) (standing : IsStanding s) (reached : IsRea
       -- ---- taken
 
       module _ (t : WorldState) (is : IsWith s t k (Up m)) where
-        pub is_taken : TakesStep s.weights e s.tables n t.tables m → Steps w e (world_of t)
-        is_taken took =
+        pub is_taken : (done : EventEffects) → TakesStep s.weights e s.tables n t.tables m done
+            → StepDoes w e (world_of t) done
+        is_taken done took =
             let took_now = taken_by n.node took.ready in
             let here = taken_by (node_at w k x) took.ready in
             let same : took_now ≡ here =
@@ -332,25 +339,30 @@ module _ (s : WorldState) (e : Event) (standing : IsStanding s) (reached : IsRea
             let left : m.node ≡ after (node_at w k x) took_now =
             took.finished.node ∙ ap (λ (z : NodeState). after z took_now) on_log.0 in
             record {
-              node = x;
-              taken = took_now;
-              acts = acted;
-              room = λ full. took.finished.room (subst (LacksRoom n.log) note
-                  (lacks_room w k n on_log took_now.answer.note full));
-              list = subst (IsListAfter w (with_sends w.sent took_now.answer.sends)) (sym list)
-                  (step_lists w reached e is_a_step x took_now acted took.ready same);
-              leaves = world_is s t k (Up m) is
-                  ∙ (λ i. with_tables s t k (Up m) is w
-                  (slice_set (map node_view nodes) k (up_node (left i)))
-                  (sent i) (list_in t.tables));
+              steps = record {
+                node = x;
+                taken = took_now;
+                acts = acted;
+                room = λ full. took.finished.room (subst (LacksRoom n.log) note
+                    (lacks_room w k n on_log took_now.answer.note full));
+                list = subst (IsListAfter w (with_sends w.sent took_now.answer.sends)) (sym list)
+                    (step_lists w reached e is_a_step x took_now acted took.ready same);
+                leaves = world_is s t k (Up m) is
+                    ∙ (λ i. with_tables s t k (Up m) is w
+                    (slice_set (map node_view nodes) k (up_node (left i)))
+                    (sent i) (list_in t.tables));
+              };
+              is_done = subst (λ noted. IsDoneBy noted took_now.answer.sends done) (sym note)
+                  (subst (λ out. IsDoneBy (note_in took.ready.step) out done) (sym sends)
+                  took.finished.is_done);
             }
 
-        pub is_left : (r : Result (Unit {0}) NodeFault)
-            → OnOk r (TakesStep s.weights e s.tables n t.tables m)
+        pub is_left : (r : Result EventEffects NodeFault)
+            → IfOk r (TakesStep s.weights e s.tables n t.tables m)
             → OnErr r (AreSame s.tables t.tables) → IfErr r (RefusesStep w.sent e n m)
             → IsOnLog mem_history m → AreListed t.tables → IsLeft s e t r
-        is_left (Ok u) took same refused log listed = record {
-          taken = is_taken took;
+        is_left (Ok done) took same refused log listed = record {
+          does = is_taken done took;
           same = tt;
           refused = tt;
           standing = stands s t k (Up m) is standing
@@ -359,7 +371,7 @@ module _ (s : WorldState) (e : Event) (standing : IsStanding s) (reached : IsRea
         is_left (Err f) took same refused log listed =
             let r = is_refused f refused in
             record {
-              taken = tt;
+              does = tt;
               same = stays s t k (Up m) is (Up n) at (ap up_node r.0) same;
               refused = r.1;
               standing = stands s t k (Up m) is standing (same_so w k n on_log m r.0 log) listed;

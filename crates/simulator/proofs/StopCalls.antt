@@ -1,14 +1,16 @@
 -- A stop inside a step, by the calls that do it.
-use Rattle.std.proofs.Common.{◌≡◌, ◌⊎◌, ◌<◌, ℕ, true, List, length, None, Some, Result, Ok, Err, IfErr, OnErr, OnOk, slice_get, slice_index_or, slice_set, sym, ap, subst, ◌∙◌}
+use Rattle.std.proofs.Common.{◌≡◌, ◌⊎◌, ◌<◌, ℕ, true, List, [], length, None, Some, Result, Ok, Err, IfErr, IfOk, OnErr, OnOk, slice_get, slice_index_or, slice_set, sym, ap, subst, ◌∙◌}
 use Rattle.protocol.specs.Events as events
 use Rattle.protocol.specs.Events.{Event}
 use Rattle.protocol.specs.declared.event.Left.{Left}
 use Rattle.node.specs.State.{LoggedNode}
-use Rattle.node.specs.Step.{Asked, IsAsked, ReadyStep}
+use Rattle.node.specs.Step.{Asked, IsAsked, ReadyStep, note_in}
 use Rattle.node.specs.declared.fault.NodeFault.{NodeFault}
 use Rattle.node.specs.declared.fault.NodeFault.TheVariants as fault
 use Rattle.stable_record.specs.declared.mem_disk.MemDisk.{MemDisk}
-use Rattle.world.specs.Happening.{IsRefusedByNode, StopsIn, fault_before}
+use Rattle.world.specs.Happening.{IsRefusedByNode, fault_before}
+use Rattle.simulator.specs.Effects.{IsDoneBy, StopDoes, note_left}
+use Rattle.simulator.specs.declared.event_effects.EventEffects.{EventEffects}
 use Rattle.simulator.specs.declared.slot.Slot.{Slot}
 use Rattle.simulator.specs.declared.slot.Slot.TheVariants.{Up}
 use Rattle.simulator.specs.declared.world_state.WorldState.{WorldState}
@@ -17,13 +19,13 @@ use Rattle.simulator.specs.inside.Standing.{IsReached, IsStanding, node_view, wo
 use Rattle.simulator.specs.inside.Stops.{IsNotStoppedWith, IsStoppedWith, ReadiesStep, StandsReady}
 use Rattle.simulator.proofs.PutBack.{stands_at}
 use Rattle.simulator.proofs.StateWith.{IsBut}
-use Rattle.simulator.proofs.StopsInside.{at_place, its_node, not_readied, readied_nodes, readied_stands, within}
+use Rattle.simulator.proofs.StopsInside.{DoesStop, at_place, its_node, not_readied, readied_nodes, readied_stands, within}
 use Rattle.simulator.proofs.StopsByLeft.{stops_in, stops_not}
 
 -- The call leaves the world in which the node stopped there, or the previous one.
 pub record IsLeftIn (s : WorldState) (e : Event) (l : Left) (t : WorldState)
-    (r : Result (Unit {0}) NodeFault) : Type 0 where
-  pub taken : OnOk r (StopsIn (world_of s) e l (world_of t))
+    (r : Result EventEffects NodeFault) : Type 0 where
+  pub does : IfOk r (StopDoes (world_of s) e l (world_of t))
   pub same : OnErr r (world_of t ≡ world_of s)
   pub refused : IfErr r
       (λ f. (f ≡ fault.Memory) ⊎ IsRefusedByNode (world_of s) (events.StopIn e l) (refused_by f))
@@ -80,7 +82,7 @@ module _ (s : WorldState) (e : Event) (l : Left) (standing : IsStanding s)
         (fits : (asked : Asked) → asked_by (world_of s).sent e ≡ Some asked → IsAsked asked)
         (t : WorldState) (but : IsBut s t) where
       pub stops_there : IsStoppedWith l then_nodes t.nodes.items place r
-          → StopsIn (world_of s) e l (world_of t) × IsStanding t
+          → DoesStop s e l r t
       stops_there stopped = stops_in s e standing reached l may x r (of_its (Ok r) h) fits t but
           (subst (λ (ns : List Slot). IsStoppedWith l ns t.nodes.items (events.node_of e) r)
           (nodes_are r h)
@@ -95,13 +97,22 @@ module _ (s : WorldState) (e : Event) (l : Left) (standing : IsStanding s)
           (subst (λ i. IsNotStoppedWith l then_nodes t.nodes.items i r f) place_is none))
 
       -- either way
-      pub left_there : (result : Result (Unit {0}) NodeFault)
+      pub left_there : (result : Result EventEffects NodeFault)
+          → IfOk result (IsDoneBy (note_left l (note_in r.step)) [])
           → OnOk result (IsStoppedWith l then_nodes t.nodes.items place r)
           → IfErr result (IsNotStoppedWith l then_nodes t.nodes.items place r)
           → IsLeftIn s e l t result
-      left_there (Ok u) stopped none =
-          let left = stops_there stopped in
-          record { taken = left.0; same = tt; refused = tt; standing = left.1 }
-      left_there (Err f) stopped none =
+      left_there (Ok done) is_done stopped none =
+          let left = stops_there stopped in record {
+            does = record {
+              stops = left.stops;
+              is_done = subst (λ noted. IsDoneBy (note_left l noted) [] done) (sym left.noted)
+                  is_done;
+            };
+            same = tt;
+            refused = tt;
+            standing = left.standing;
+          }
+      left_there (Err f) is_done stopped none =
           let left = not_there f none in
-          record { taken = tt; same = left.0; refused = left.2; standing = left.1 }
+          record { does = tt; same = left.0; refused = left.2; standing = left.1 }

@@ -14,7 +14,7 @@ use Rattle.node.specs.declared.fault.NodeFault.{NodeFault}
 use Rattle.node.specs.declared.fault.NodeFault.TheVariants as fault
 use Rattle.stable_record.specs.History.{stands}
 use Rattle.stable_record.specs.declared.mem_disk.MemDisk.{MemDisk}
-use Rattle.world.specs.Happening.{IsRefusedByNode, StopsIn, fault_before}
+use Rattle.world.specs.Happening.{IsRefusedByNode, fault_before}
 use Rattle.world.specs.World.{World, down_node}
 use Rattle.simulator.specs.declared.slot.Slot.{Slot}
 use Rattle.simulator.specs.declared.slot.Slot.TheVariants.{Down, Up}
@@ -25,7 +25,7 @@ use Rattle.simulator.specs.inside.Standing.{IsReached, IsStanding, StandsOn, dis
 use Rattle.simulator.specs.inside.Stops.{IsNotStoppedWith, IsStopped, IsStoppedWith, ReadiesStep, TookNone, TookStep}
 use Rattle.simulator.proofs.NodeStands.{IsLeftAs, lacks_room, stopped_so, took_so, torn_so}
 use Rattle.simulator.proofs.StateWith.{IsBut, put_again, put_there}
-use Rattle.simulator.proofs.StopsInside.{down_so, full_so, its_node, up_again, within}
+use Rattle.simulator.proofs.StopsInside.{DoesStop, down_so, full_so, its_node, up_again, within}
 
 -- the node at the place stopped there
 record HasStoppedAt (w : World) (k : ℕ) (n : LoggedNode MemDisk) (old new : List Slot) : Type 0
@@ -55,7 +55,7 @@ module _ (s : WorldState) (e : Event) (standing : IsStanding s)
       → ((asked : Asked) → asked_by (world_of s).sent e ≡ Some asked → IsAsked asked)
       → (t : WorldState) → IsBut s t
       → IsStoppedWith l s.nodes.items t.nodes.items (events.node_of e) r
-      → StopsIn (world_of s) e l (world_of t) × IsStanding t
+      → DoesStop s e l r t
   stops_in left.None may x r h fits t but stopped =
       let n = its_node s e left.None standing reached may in
       let is = standing.disks (events.node_of e) (Up n.0) n.1 in
@@ -87,7 +87,7 @@ module _ (s : WorldState) (e : Event) (standing : IsStanding s)
       by : (y : Slot) → TookStep (Up n.0) r y
           → IsStopped (slice_set s.nodes.items (events.node_of e) y) t.nodes.items
           (events.node_of e)
-          → StopsIn (world_of s) e left.Whole (world_of t) × IsStanding t
+          → DoesStop s e left.Whole r t
       by (Down d) took stop = absurd took
       by (Up m) took stop =
           let is_then = took_so (world_of s) (events.node_of e) n.0 is (taken_by n.0.node r) m

@@ -39,6 +39,13 @@ refuses_with f = Err f
 refused_same : (f g : NodeFault) → refuses_with f ≡ refuses_with g → f ≡ g
 refused_same f g e = cc
 
+-- The node stopped inside this step, and each node agrees with its disk.
+pub record DoesStop (s : WorldState) (e : Event) (l : Left) (r : ReadyStep) (t : WorldState) :
+    Type 0 where
+  pub stops : StopsIn (world_of s) e l (world_of t)
+  pub noted : stops.taken.answer.note ≡ note_in r.step
+  pub standing : IsStanding t
+
 module _ (s : WorldState) (e : Event) (l : Left) (standing : IsStanding s)
     (reached : IsReached (world_of s))
     (may : fault_before (world_of s) (events.StopIn e l) ≡ None) where
@@ -211,18 +218,19 @@ module _ (s : WorldState) (e : Event) (l : Left) (standing : IsStanding s)
         → t.nodes.items ≡ slice_set nodes k (Down down)
         → IsLeftAs w k down (left_node l n.node.notes took.answer.note)
         → HasRoomFor w k (up_node n.node) l took.answer.note
-        → StopsIn w e l (world_of t) × IsStanding t
-    down_so t but down put left room = (
-      record {
+        → DoesStop s e l r t
+    down_so t but down put left room = record {
+      stops = record {
         node = up_node n.node;
         taken = took;
         step = is_a_step;
         acts = acts;
         room = room;
         leaves = world_with s t but k (Down down) put ∙ ap (with_node w k) left.view;
-      },
-      standing_with s t but k (Down down) put standing left.left,
-    )
+      };
+      noted = note_is;
+      standing = standing_with s t but k (Down down) put standing left.left;
+    }
 
     -- the log has no room for the note
     pub full_so : leaves_note (events.StopIn e l) ≡ true → LacksRoom n.log (note_in r.step)

@@ -12,6 +12,7 @@ use Rattle.node.specs.Step.{Asked, ReadyStep, Taken, Takes, note_in, taken_by}
 use Rattle.node.specs.declared.fault.NodeFault.{NodeFault}
 use Rattle.node.specs.declared.fault.NodeFault.TheVariants as node_fault
 use Rattle.protocol.specs.State.{Value}
+use Rattle.simulator.specs.declared.event_effects.EventEffects.{EventEffects}
 use Rattle.simulator.specs.declared.tables.Tables.{Tables}
 use Rattle.simulator.specs.inside.Asking.{IsReadied, asked_by, refused_by}
 use Rattle.simulator.specs.inside.NodeSteps.{HasFinished, RefusesStep, TakesStep}
@@ -122,15 +123,17 @@ same_node n m node log_is = λ i. record { node = node i; log = log_is i }
 
 -- A step that was made ready and finished is taken.
 pub takes_step : (weights : List ℕ) (e : Event) (old new : Tables) (n m k : LoggedNode MemDisk)
-    (r : ReadyStep) → IsReadied old.sent e n.node m.node (Ok (taken_by n.node r))
-    → m.log ≡ n.log → HasFinished weights old m r new k → TakesStep weights e old n new k
-takes_step weights e old new n m k r ready log_is done =
+    (r : ReadyStep) (effects : EventEffects)
+    → IsReadied old.sent e n.node m.node (Ok (taken_by n.node r))
+    → m.log ≡ n.log → HasFinished weights old m r new k effects
+    → TakesStep weights e old n new k effects
+takes_step weights e old new n m k r effects ready log_is done =
     let s = stands_ready old.sent e n.node m.node (taken_by n.node r) ready in record {
       ready = r;
       asked = s.asked;
       asks = s.asks;
       takes = s.takes;
-      finished = subst (λ (x : LoggedNode MemDisk). HasFinished weights old x r new k)
+      finished = subst (λ (x : LoggedNode MemDisk). HasFinished weights old x r new k effects)
           (same_node n m s.stays log_is) done;
     }
 

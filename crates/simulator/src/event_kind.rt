@@ -11,7 +11,7 @@ ghost use Rattle.world.specs.World as worlds;
 use protocol::Event;
 
 /// The node of the event.
-pub(crate) fn node_of(event: &Event) -> u8
+pub fn node_of(event: &Event) -> u8
     ensures { result ≡ events.node_of (event_view event.now) }
 {
     match event {

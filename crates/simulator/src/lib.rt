@@ -2,6 +2,7 @@
 #![tactic(auto)]
 
 mod digested_tree;
+mod event_effects;
 mod event_kind;
 mod event_queue;
 mod node_steps;
@@ -16,6 +17,8 @@ mod whole_run;
 mod world_state;
 mod world_steps;
 
+pub use crate::event_effects::{EventEffects, MessageKind, NoteKind};
+pub use crate::event_kind::node_of;
 pub use crate::run_fault::RunFault;
 pub use crate::running_world::World;
 pub use crate::whole_run::run;

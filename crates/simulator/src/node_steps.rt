@@ -3,6 +3,7 @@ ghost use Rattle.std.specs.Prelude.{◌≡◌, ◌⊎◌, IfErr, IfOk, OnErr, On
 ghost use Rattle.protocol.specs.Events.{event_view};
 ghost use Rattle.faults.specs.Answers.{map_ok};
 ghost use Rattle.node.specs.OnLog.{IsOnLog, LacksRoom};
+ghost use Rattle.node.specs.Parcels.{datagrams_to};
 ghost use Rattle.node.specs.Step.{IsReadyFor, note_in, sends_in, taken_by};
 ghost use Rattle.protocol.specs.declared.input.Input.TheVariants as inputs;
 ghost use Rattle.stable_record.specs.InMemory.{mem_history};
@@ -18,11 +19,12 @@ ghost use Rattle.simulator.specs.inside.NodeSteps.{
 ghost use Rattle.simulator.specs.inside.Stops.{HasTakenOnLog, StaysOnLog};
 ghost use Rattle.simulator.specs.inside.Tables.{AreListed, AreSame, HasGrown, list_in};
 
+use crate::event_effects::{EventEffects, message_kind, note_kind};
 use crate::tables::Tables;
 use crate::votes::decided;
 use ballots::Weights;
 use faults::Memory;
-use node::{Node, NodeFault, PreparedStep};
+use node::{Effects, Node, NodeFault, Parcels, PreparedStep};
 use pkgpath::PkgPath;
 use protocol::{Event, Input, Packages};
 use stable_record::{LogFault, MemDisk};
@@ -36,11 +38,11 @@ pub(crate) fn step_node(
     tables: &mut Tables,
     node: &mut Node<'_, MemDisk>,
     event: &Event,
-) -> Result<(), NodeFault>
+) -> Result<EventEffects, NodeFault>
     requires asks { CanBeAsked tables.old.sent (event_view event.now) }
     requires on_log { IsOnLog mem_history node.old }
     requires listed { AreListed tables.old }
-    ensures taken { OnOk result (TakesStep weights.now (event_view event.now) tables.old node.old
+    ensures taken { IfOk result (TakesStep weights.now (event_view event.now) tables.old node.old
         tables.new node.new) }
     ensures on_log { IsOnLog mem_history node.new }
     ensures listed { AreListed tables.new }
@@ -51,7 +53,7 @@ pub(crate) fn step_node(
     let ready = prepare_step(node, &tables.sent, event)?;
     let lengths = tables.lengths();
     match finish_step(weights, tables, node, ready) {
-        Ok(()) => Ok(()),
+        Ok(done) => Ok(done),
         Err(fault) => {
             tables.cut_back(lengths);
             Err(fault)
@@ -65,11 +67,11 @@ fn finish_step(
     tables: &mut Tables,
     node: &mut Node<'_, MemDisk>,
     ready: PreparedStep,
-) -> Result<(), NodeFault>
+) -> Result<EventEffects, NodeFault>
     requires present { IsReadyFor node.old.node ready }
     requires on_log { IsOnLog mem_history node.old }
     requires listed { AreListed tables.old }
-    ensures taken { OnOk result (HasFinished weights.now tables.old node.old ready tables.new
+    ensures taken { IfOk result (HasFinished weights.now tables.old node.old ready tables.new
         node.new) }
     ensures on_log { IsOnLog mem_history node.new }
     ensures listed { OnOk result (AreListed tables.new) }
@@ -82,8 +84,14 @@ fn finish_step(
         drop(ready);
         return Err(NodeFault::Memory);
     };
-    finish_on_log(node, ready)?;
-    Ok(())
+    let noted = note_kind(&ready);
+    let message = message_kind(&ready);
+    let sends = finish_on_log(node, ready)?;
+    Ok(EventEffects {
+        noted,
+        message,
+        sends,
+    })
 }
 
 /// Enters what the step sends and decides.
@@ -143,19 +151,21 @@ pub(crate) fn prepare_step(
     }
 }
 
-/// The node takes the ready step. Its messages and its job are dropped: the caller reads them
-/// before.
+/// The node takes the ready step. Returns what it sends. Its job is dropped.
 pub(crate) fn finish_on_log(
     node: &mut Node<'_, MemDisk>,
     ready: PreparedStep,
-) -> Result<(), NodeFault>
+) -> Result<Parcels, NodeFault>
     requires present { IsReadyFor node.old.node ready }
     requires on_log { IsOnLog mem_history node.old }
     ensures taken { OnOk result (HasTakenOnLog node.old ready node.new) }
+    ensures sends { IfOk result (λ sends. sends ≡ datagrams_to (sends_in ready.step)) }
     ensures none { IfErr result (StaysOnLog node.old ready node.new) }
 {
-    node.finish(ready)?;
-    Ok(())
+    let effects = node.finish(ready)?;
+    let Effects { sends, job } = effects;
+    drop(job);
+    Ok(sends)
 }
 
 /// The world's fault if the node refuses with this one.

@@ -1,6 +1,7 @@
 //! A world. Contracts see its nodes, its datagrams, its list, and the events that led to it.
-ghost use Rattle.std.specs.Prelude.{◌≡◌, ◌<◌, [], IfOk, Some, length, slice_get, true};
+ghost use Rattle.std.specs.Prelude.{◌≡◌, ◌<◌, [], IfOk, Some, length, position, slice_get, true};
 ghost use Rattle.std.specs.Option.{option_copied};
+ghost use Rattle.std.specs.Str.{bytes_eq};
 ghost use Rattle.engine.specs.State as engines;
 ghost use Rattle.protocol.specs.State.{engine_of};
 ghost use Rattle.simulator.specs.History.{IsHistory, file_length};
@@ -106,6 +107,13 @@ impl<'a> World<'a> {
         ensures { result.now.keys ≡ self.now.world.sent }
     {
         self.state.tables.sent.as_set()
+    }
+
+    /// The number of the datagram with these bytes, if it was sent.
+    pub fn number_of(&self, datagram: &DatagramBytes) -> Option<usize>
+        ensures { result ≡ position (bytes_eq datagram.now) self.now.world.sent }
+    {
+        self.state.tables.sent.number_of(datagram)
     }
 
     /// The number of nodes, one for each member.

@@ -3,6 +3,7 @@ ghost use Rattle.std.specs.Prelude.{
   ◌≡◌,
   ◌<◌,
   ◌⊎◌,
+  [],
   IfErr,
   IfOk,
   None,
@@ -14,7 +15,9 @@ ghost use Rattle.std.specs.Prelude.{
 };
 ghost use Rattle.protocol.specs.Events as events;
 ghost use Rattle.protocol.specs.Events.{event_view};
-ghost use Rattle.world.specs.Happening.{IsRefusedByNode, Restarts, StopsIn, fault_before};
+ghost use Rattle.world.specs.Happening.{IsRefusedByNode, fault_before};
+ghost use Rattle.node.specs.Step.{note_in};
+ghost use Rattle.simulator.specs.Effects.{IsDoneBy, OnlyRestarts, StopDoes, note_left};
 ghost use Rattle.simulator.specs.inside.Asking.{CanBeAsked, refused_by};
 ghost use Rattle.simulator.specs.inside.Opening.{HasNode, IsNodeOf};
 ghost use Rattle.simulator.specs.inside.Standing.{
@@ -40,6 +43,7 @@ ghost use Rattle.simulator.specs.inside.Stops.{
 };
 
 use crate::digested_tree::DigestedTree;
+use crate::event_effects::EventEffects;
 use crate::event_kind::{host_fits, node_of};
 use crate::node_steps::{finish_on_log, prepare_step};
 use crate::opening::opened;
@@ -47,7 +51,7 @@ use crate::slot::{DownNode, Slot};
 use crate::world_state::WorldState;
 use ballots::Weights;
 use faults::Memory;
-use node::{Node, NodeFault, PreparedStep};
+use node::{Node, NodeFault, Parcels, PreparedStep};
 use protocol::{Event, Left};
 use stable_record::MemDisk;
 use std::alloc::Global;
@@ -100,8 +104,8 @@ fn prepare_in_slot(
     }
 }
 
-/// The node, which is up, takes the step. Its messages and its job are lost.
-fn finish_in_slot(slot: &mut Slot<'_>, ready: PreparedStep) -> Result<(), NodeFault>
+/// The node, which is up, takes the step. Its job is lost.
+fn finish_in_slot(slot: &mut Slot<'_>, ready: PreparedStep) -> Result<Parcels, NodeFault>
     requires { IsReady slot.old ready }
     ensures took { OnOk result (TookStep slot.old ready slot.new) }
     ensures none { IfErr result (TookNone slot.old ready slot.new) }
@@ -112,7 +116,7 @@ fn finish_in_slot(slot: &mut Slot<'_>, ready: PreparedStep) -> Result<(), NodeFa
     }
 }
 
-/// The node at the place stops once the note of its step is on the log.
+/// The node at the place stops once the note of its step is on the log. Its messages are lost.
 fn stop_behind(
     nodes: &mut Vec<Slot<'_>>,
     place: usize,
@@ -155,6 +159,30 @@ fn stop_with(
     }
 }
 
+/// The same. Returns what the stop did.
+fn stop_doing(
+    nodes: &mut Vec<Slot<'_>>,
+    place: usize,
+    ready: PreparedStep,
+    left: &Left,
+) -> Result<EventEffects, NodeFault>
+    requires { StandsReady nodes.old.items place ready }
+    ensures stopped { OnOk result
+        (IsStoppedWith left.now nodes.old.items nodes.new.items place ready) }
+    ensures done { IfOk result (IsDoneBy (note_left left.now (note_in ready.step)) []) }
+    ensures none { IfErr result
+        (IsNotStoppedWith left.now nodes.old.items nodes.new.items place ready) }
+{
+    let done = EventEffects::of_stop(*nodes.allocator(), &ready, left);
+    match stop_with(nodes, place, ready, left) {
+        Ok(()) => Ok(done),
+        Err(fault) => {
+            drop(done);
+            Err(fault)
+        }
+    }
+}
+
 /// Puts this node at the place, instead of the one there.
 fn put<'a>(nodes: &mut Vec<Slot<'a>>, place: usize, slot: Slot<'a>)
     requires { place < length nodes.old.items }
@@ -183,12 +211,12 @@ fn restarted<'a>(
 
 impl<'a> WorldState<'a> {
     /// The node of the step stops inside it, and this is left of its note. Nothing is sent.
-    pub(crate) fn stop_in(&mut self, step: &Event, left: &Left) -> Result<(), NodeFault>
+    pub(crate) fn stop_in(&mut self, step: &Event, left: &Left) -> Result<EventEffects, NodeFault>
         requires standing { IsStanding self.old }
         requires reached { IsReached (world_of self.old) }
         requires may { fault_before (world_of self.old)
             (events.StopIn (event_view step.now) left.now) ≡ None }
-        ensures taken { OnOk result (StopsIn (world_of self.old) (event_view step.now) left.now
+        ensures does { IfOk result (StopDoes (world_of self.old) (event_view step.now) left.now
             (world_of self.new)) }
         ensures same { OnErr result (world_of self.new ≡ world_of self.old) }
         ensures refused { IfErr result (λ f. (f ≡ NodeFault.Memory)
@@ -199,18 +227,18 @@ impl<'a> WorldState<'a> {
         host_fits(step);
         let place = node_of(step) as usize;
         match prepare_in_slot(&mut self.nodes[place], &self.tables.sent, step) {
-            Ok(ready) => stop_with(&mut self.nodes, place, ready, left),
+            Ok(ready) => stop_doing(&mut self.nodes, place, ready, left),
             Err(fault) => Err(fault),
         }
     }
 
     /// The node starts again, in the state that its notes restore. Until it is up, its disk is
     /// unchanged.
-    pub(crate) fn restart(&mut self, me: u8) -> Result<(), NodeFault>
+    pub(crate) fn restart(&mut self, me: u8) -> Result<EventEffects, NodeFault>
         requires standing { IsStanding self.old }
         requires reached { IsReached (world_of self.old) }
         requires may { fault_before (world_of self.old) (events.Restart me) ≡ None }
-        ensures taken { OnOk result (Restarts (world_of self.old) me (world_of self.new)) }
+        ensures does { IfOk result (OnlyRestarts (world_of self.old) me (world_of self.new)) }
         ensures same { OnErr result (world_of self.new ≡ world_of self.old) }
         ensures refused { IfErr result (λ f. f ≡ NodeFault.Memory) }
         ensures standing { IsStanding self.new }
@@ -225,7 +253,7 @@ impl<'a> WorldState<'a> {
         ) {
             Ok(node) => {
                 put(&mut self.nodes, me as usize, Slot::Up(node));
-                Ok(())
+                Ok(EventEffects::nothing(alloc))
             }
             Err(Memory) => Err(NodeFault::Memory),
         }

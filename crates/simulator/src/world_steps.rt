@@ -1,14 +1,16 @@
 //! The steps of a world.
-ghost use Rattle.std.specs.Prelude.{◌≡◌, ◌++◌, ◌∷◌, ◌⊎◌, [], IfErr, None, OnErr, OnOk, true};
+ghost use Rattle.std.specs.Prelude.{◌≡◌, ◌++◌, ◌∷◌, ◌⊎◌, [], IfErr, IfOk, None, OnErr, OnOk, true};
 ghost use Rattle.protocol.specs.Events.{event_view, is_step};
 ghost use Rattle.one_list.specs.MatchingLaws.{IsSafe};
 ghost use Rattle.world.specs.Happening.{Happens, IsRefused, IsRefusedByNode, fault_before};
 ghost use Rattle.world.specs.Headline.{HasOneList, HoldAlike, IsBeginningOf};
+ghost use Rattle.simulator.specs.Effects.{Does};
 ghost use Rattle.simulator.specs.History.{IsHistory, taken};
 ghost use Rattle.simulator.specs.inside.Asking.{refused_by};
 ghost use Rattle.simulator.specs.inside.Standing.{IsReached, IsStanding, world_of};
 
 use crate::World;
+use crate::event_effects::EventEffects;
 use crate::event_kind::{host_fits, node_of};
 use crate::node_steps::{refused, step_node};
 use crate::slot::Slot;
@@ -22,16 +24,19 @@ use world::WorldFault;
 
 impl<'a> World<'a> {
     /// Takes the event, or refuses it and changes nothing. In both cases the list has only grown,
-    /// and the world has one list at each moment of the events taken so far.
+    /// and the world has one list at each moment of the events taken so far. Returns what the event
+    /// did at its node.
     ///
     /// # Errors
     ///
     /// `Memory`; else the first of these: `BadTrace` with 0, for a stop inside something other than
     /// a step; `NoSuchNode`; `NodeDown`, or `NodeUp` for a restart; `NoSuchDatagram`; the node's
     /// refusal.
-    pub fn step(&mut self, event: &Event) -> Result<(), WorldFault>
+    pub fn step(&mut self, event: &Event) -> Result<EventEffects, WorldFault>
         ensures taken { OnOk result
             (Happens self.old.world (event_view event.now) self.new.world) }
+        ensures does { IfOk result
+            (Does self.old.world (event_view event.now) self.new.world) }
         ensures kept { OnOk result (taken self.new ≡ taken self.old ++ event_view event.now ∷ []) }
         ensures same { OnErr result (self.new ≡ self.old) }
         ensures refused { IfErr result (λ f. (f ≡ WorldFault.Memory)
@@ -56,9 +61,11 @@ impl<'a> World<'a> {
     }
 
     /// Takes a copy of the event and keeps it, or refuses the event and changes nothing.
-    fn step_copy(&mut self, event: &Event) -> Result<(), WorldFault>
+    fn step_copy(&mut self, event: &Event) -> Result<EventEffects, WorldFault>
         ensures taken { OnOk result
             (Happens self.old.world (event_view event.now) self.new.world) }
+        ensures does { IfOk result
+            (Does self.old.world (event_view event.now) self.new.world) }
         ensures kept { OnOk result (taken self.new ≡ taken self.old ++ event_view event.now ∷ []) }
         ensures same { OnErr result (self.new ≡ self.old) }
         ensures refused { IfErr result (λ f. (f ≡ WorldFault.Memory)
@@ -73,8 +80,9 @@ impl<'a> World<'a> {
     }
 
     /// Takes the event and keeps it, or refuses it and changes nothing.
-    pub(crate) fn step_and_keep(&mut self, event: Event) -> Result<(), WorldFault>
+    pub(crate) fn step_and_keep(&mut self, event: Event) -> Result<EventEffects, WorldFault>
         ensures taken { OnOk result (Happens self.old.world (event_view event) self.new.world) }
+        ensures does { IfOk result (Does self.old.world (event_view event) self.new.world) }
         ensures kept { OnOk result (taken self.new ≡ taken self.old ++ event_view event ∷ []) }
         ensures same { OnErr result (self.new ≡ self.old) }
         ensures refused { IfErr result (λ f. (f ≡ WorldFault.Memory)
@@ -90,9 +98,9 @@ impl<'a> World<'a> {
             return Err(WorldFault::Memory);
         }
         match self.state.step(&event) {
-            Ok(()) => {
+            Ok(done) => {
                 self.events.push_reserved(event);
-                Ok(())
+                Ok(done)
             }
             Err(fault) => {
                 drop(event);
@@ -104,12 +112,12 @@ impl<'a> World<'a> {
 
 impl<'a> WorldState<'a> {
     /// Takes the event, which only its node may refuse, or refuses it and changes nothing.
-    fn step(&mut self, event: &Event) -> Result<(), NodeFault>
+    fn step(&mut self, event: &Event) -> Result<EventEffects, NodeFault>
         requires standing { IsStanding self.old }
         requires reached { IsReached (world_of self.old) }
         requires may { fault_before (world_of self.old) (event_view event.now) ≡ None }
-        ensures taken { OnOk result
-            (Happens (world_of self.old) (event_view event.now) (world_of self.new)) }
+        ensures does { IfOk result
+            (Does (world_of self.old) (event_view event.now) (world_of self.new)) }
         ensures same { OnErr result (world_of self.new ≡ world_of self.old) }
         ensures refused { IfErr result (λ f. (f ≡ NodeFault.Memory)
             ⊎ IsRefusedByNode (world_of self.old) (event_view event.now) (refused_by f)) }
@@ -118,7 +126,7 @@ impl<'a> WorldState<'a> {
         match event {
             Event::Stop { node } => {
                 stop(&mut self.nodes, *node as usize);
-                Ok(())
+                Ok(EventEffects::nothing(*self.nodes.allocator()))
             }
             Event::StopIn { input, left } => self.stop_in(input, left),
             Event::Restart { node } => self.restart(*node),
@@ -127,13 +135,13 @@ impl<'a> WorldState<'a> {
     }
 
     /// The node takes its step, and what it sends is entered; or nothing changes.
-    fn step_node(&mut self, event: &Event) -> Result<(), NodeFault>
+    fn step_node(&mut self, event: &Event) -> Result<EventEffects, NodeFault>
         requires standing { IsStanding self.old }
         requires reached { IsReached (world_of self.old) }
         requires may { fault_before (world_of self.old) (event_view event.now) ≡ None }
         requires step { is_step (event_view event.now) ≡ true }
-        ensures taken { OnOk result
-            (Happens (world_of self.old) (event_view event.now) (world_of self.new)) }
+        ensures does { IfOk result
+            (Does (world_of self.old) (event_view event.now) (world_of self.new)) }
         ensures same { OnErr result (world_of self.new ≡ world_of self.old) }
         ensures refused { IfErr result (λ f. (f ≡ NodeFault.Memory)
             ⊎ IsRefusedByNode (world_of self.old) (event_view event.now) (refused_by f)) }

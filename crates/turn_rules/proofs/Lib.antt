@@ -1,9 +1,9 @@
 mod Answered
-mod Choosing
-pub mod DoingOwn
+mod DoingOwn
 pub mod FailedBelow
 mod GivenFiles
 mod Keeping
+mod MadeAnswers
 mod Offerings
 mod OneChoice
 pub mod Owned

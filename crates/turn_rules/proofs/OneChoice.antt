@@ -5,13 +5,14 @@ use Rattle.std.proofs.lemmas.Bool.{cases_order}
 use Rattle.faults.specs.Answers.{option_or}
 use Rattle.node.specs.Step.{Does}
 use Rattle.datagram_ports.specs.Kept.{Arrived}
-use Rattle.protocol.specs.Given.{Given}
 use Rattle.protocol.specs.State.{OpenClaim, State}
 use Rattle.protocol.specs.declared.input.Input.{Input}
-use Rattle.turn_rules.specs.Choice.{Chosen, Here, IsDoneOr, IsFirstOwn, IsGivenOr, IsOwnIf, comes_to, first_job, in_turn}
+use Rattle.turn_rules.specs.Choice.{Chosen, Here, IsDoneBy, IsDoneIf, IsDoneOr, IsFirstDone, IsGivenOr, Made, Who, comes_to, first_answer, in_turn}
 use Rattle.turn_rules.specs.Own.{Barred, IsLeastFree, IsOwn, IsOwnBy, claim_of}
 use Rattle.turn_rules.specs.Pending.{Pending}
 use Rattle.turn_rules.specs.Laws.{OnlyOneChoice}
+use Rattle.turn_rules.specs.declared.initiative.Initiative.{Initiative}
+use Rattle.turn_rules.specs.declared.initiative.Initiative.TheVariants.{Own, Scheduled}
 
 -- the least is unique
 least_one : (s : State) (barred : Barred) (a b : Option ℕ) → IsLeastFree s barred a
@@ -31,10 +32,17 @@ own_by_one s None above barred a b (x, f, e) (y, g, d) =
     e ∙ ap (option_map (claim_of s)) (least_one s barred x y f g) ∙ sym d
 own_by_one s (Some o) above barred a b e d = e ∙ sym d
 
-own_one : (here : Here) (count : ℕ) (p : Pending) (k : ℕ) (o : Option State) (a b : Option Input)
-    → IsOwnIf here count p k o a → IsOwnIf here count p k o b → a ≡ b
-own_one here count p k None a b e d = e ∙ sym d
-own_one here count p k (Some s) a b e d = own_by_one s s.claim _ _ a b e d
+-- what a node does on its initiative is unique
+done_by_one : (i : Initiative) (s : State) (above : Option ℕ) (barred : Barred)
+    (a b : Option Input) → IsDoneBy i s above barred a → IsDoneBy i s above barred b → a ≡ b
+done_by_one Own s above barred a b e d = own_by_one s s.claim above barred a b e d
+done_by_one (Scheduled wish) s above barred a b e d = e ∙ sym d
+
+done_one : (here : Here) (count : ℕ) (p : Pending) (who : Who) (k : ℕ) (o : Option State)
+    (a b : Option Input) → IsDoneIf here count p who k o a → IsDoneIf here count p who k o b
+    → a ≡ b
+done_one here count p who k None a b e d = e ∙ sym d
+done_one here count p who k (Some s) a b e d = done_by_one (who k) s _ _ a b e d
 
 -- the first that does anything is unique, if the later ones are
 then_one : (k : ℕ) (a b : Chosen) (A B : Type 0) (x y : Option Input) → x ≡ y → (A → B → a ≡ b)
@@ -45,18 +53,19 @@ then_one k a b A B (Some i) None same later e d = absurd (let no : Some i ≡ No
 then_one k a b A B (Some i) (Some j) same later e d =
     let one : i ≡ j = cc in e ∙ ap (λ input. Some (k, Does input)) one ∙ sym d
 
-first_one : (here : Here) (count : ℕ) (p : Pending) (ks : List ℕ) (a b : Chosen)
-    → IsFirstOwn here count p ks a → IsFirstOwn here count p ks b → a ≡ b
-first_one here count p [] a b e d = e ∙ sym d
-first_one here count p (k ∷ ks) a b (x, is, then) (y, too, later) =
-    then_one k a b (IsFirstOwn here count p ks a) (IsFirstOwn here count p ks b) x y
-    (own_one here count p k (here k) x y is too) (first_one here count p ks a b) then later
+first_one : (here : Here) (count : ℕ) (p : Pending) (who : Who) (ks : List ℕ) (a b : Chosen)
+    → IsFirstDone here count p who ks a → IsFirstDone here count p who ks b → a ≡ b
+first_one here count p who [] a b e d = e ∙ sym d
+first_one here count p who (k ∷ ks) a b (x, is, then) (y, too, later) =
+    then_one k a b (IsFirstDone here count p who ks a) (IsFirstDone here count p who ks b) x y
+    (done_one here count p who k (here k) x y is too) (first_one here count p who ks a b) then
+    later
 
 pub only_one : OnlyOneChoice
-only_one here count p builds came a b =
-    by (option_or (first_job here count builds) (comes_to here came))
+only_one here count p made who came a b =
+    by (option_or (first_answer here count made) (comes_to here came))
   where
-    by : (g : Chosen) → IsGivenOr g a (IsFirstOwn here count p (in_turn p.next count) a)
-        → IsGivenOr g b (IsFirstOwn here count p (in_turn p.next count) b) → a ≡ b
-    by None f h = first_one here count p (in_turn p.next count) a b f h
+    by : (g : Chosen) → IsGivenOr g a (IsFirstDone here count p who (in_turn p.next count) a)
+        → IsGivenOr g b (IsFirstDone here count p who (in_turn p.next count) b) → a ≡ b
+    by None f h = first_one here count p who (in_turn p.next count) a b f h
     by (Some x) e d = e ∙ sym d

@@ -9,16 +9,18 @@ use Rattle.engine.specs.declared.Letter.{Letter}
 use Rattle.engine.specs.declared.Letter.TheVariants as letters
 use Rattle.faults.specs.Answers.{option_or}
 use Rattle.datagram_ports.specs.Kept.{Arrived}
-use Rattle.protocol.specs.Given.{Given}
 use Rattle.protocol.specs.Member.{IsMember}
 use Rattle.protocol.specs.State.{OpenClaim, State, engine_of}
 use Rattle.protocol.specs.declared.input.Input.{Input}
 use Rattle.node.specs.Step.{Does}
 use Rattle.engine.specs.Division.{number_of}
-use Rattle.turn_rules.specs.Choice.{Chosen, Here, IsDoneOr, IsFirstOwn, IsGivenOr, IsOwnIf, barred_at, comes_to, first_job, in_turn}
+use Rattle.turn_rules.specs.Choice.{Chosen, Here, IsDoneBy, IsDoneIf, IsDoneOr, IsFirstDone, IsGivenOr, Made, Who, barred_at, comes_to, first_answer, in_turn}
 use Rattle.turn_rules.specs.Laws.{SomeChoice}
 use Rattle.turn_rules.specs.Own.{Barred, IsFree, IsLeastFree, IsOwnBy, claim_of, is_barred, renewed}
 use Rattle.turn_rules.specs.Pending.{Pending, above_at}
+use Rattle.turn_rules.specs.Scheduled.{scheduled}
+use Rattle.turn_rules.specs.declared.initiative.Initiative.{Initiative}
+use Rattle.turn_rules.specs.declared.initiative.Initiative.TheVariants.{Own, Scheduled}
 
 -- ---- the least position with a decidable property
 
@@ -79,30 +81,37 @@ some_own_by s is None above barred =
     (option_map (claim_of s) least.0, (least.0, least.1, refl))
 some_own_by s is (Some o) above barred = (Some (renewed s o above), refl)
 
+some_done_by : (i : Initiative) (s : State) → IsMember s → (above : Option ℕ) (barred : Barred)
+    → (done : Option Input) × IsDoneBy i s above barred done
+some_done_by Own s is above barred = some_own_by s is s.claim above barred
+some_done_by (Scheduled wish) s is above barred = (scheduled wish above s, refl)
+
 -- ---- the choice
 
-module _ (here : Here) (count : ℕ) (p : Pending)
+module _ (here : Here) (count : ℕ) (p : Pending) (who : Who)
     (are : (k : ℕ) (s : State) → here k ≡ Some s → IsMember s) where
-  some_own : (k : ℕ) (o : Option State) → here k ≡ o
-      → (own : Option Input) × IsOwnIf here count p k o own
-  some_own k None at = (None, refl)
-  some_own k (Some s) at = some_own_by s (are k s at) s.claim (above_at p k) (barred_at here count p k)
+  some_done : (k : ℕ) (o : Option State) → here k ≡ o
+      → (done : Option Input) × IsDoneIf here count p who k o done
+  some_done k None at = (None, refl)
+  some_done k (Some s) at =
+      some_done_by (who k) s (are k s at) (above_at p k) (barred_at here count p k)
 
-  later_or_now : (k : ℕ) (ks : List ℕ) → ((own : Option Input) × IsOwnIf here count p k (here k) own)
-      → ((chosen : Chosen) × IsFirstOwn here count p ks chosen)
-      → (chosen : Chosen) × IsFirstOwn here count p (k ∷ ks) chosen
+  later_or_now : (k : ℕ) (ks : List ℕ)
+      → ((done : Option Input) × IsDoneIf here count p who k (here k) done)
+      → ((chosen : Chosen) × IsFirstDone here count p who ks chosen)
+      → (chosen : Chosen) × IsFirstDone here count p who (k ∷ ks) chosen
   later_or_now k ks (None, is) later = (later.0, (None, is, later.1))
   later_or_now k ks (Some input, is) later = (Some (k, Does input), (Some input, is, refl))
 
-  some_first : (ks : List ℕ) → (chosen : Chosen) × IsFirstOwn here count p ks chosen
+  some_first : (ks : List ℕ) → (chosen : Chosen) × IsFirstDone here count p who ks chosen
   some_first [] = (None, refl)
-  some_first (k ∷ ks) = later_or_now k ks (some_own k (here k) refl) (some_first ks)
+  some_first (k ∷ ks) = later_or_now k ks (some_done k (here k) refl) (some_first ks)
 
 pub some_choice : SomeChoice
-some_choice here count p builds came are =
-    by (option_or (first_job here count builds) (comes_to here came))
+some_choice here count p made who came are =
+    by (option_or (first_answer here count made) (comes_to here came))
   where
     by : (g : Chosen) → (chosen : Chosen)
-        × IsGivenOr g chosen (IsFirstOwn here count p (in_turn p.next count) chosen)
-    by None = some_first here count p are (in_turn p.next count)
+        × IsGivenOr g chosen (IsFirstDone here count p who (in_turn p.next count) chosen)
+    by None = some_first here count p who are (in_turn p.next count)
     by (Some x) = (Some x, refl)

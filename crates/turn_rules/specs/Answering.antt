@@ -40,3 +40,7 @@ answer_to s builds o (Voting b joined) = None
 -- the answer for the member's open claim, if it has one
 abbrev pub answer_of : State → Given → Option Input
 answer_of s builds = option_and_then (λ o. answer_to s builds o o.progress) s.claim
+
+-- the answer to the member's job, if its files are made
+abbrev pub answer_if : Option Given → State → Option Input
+answer_if made s = option_and_then (answer_of s) made

@@ -9,7 +9,8 @@ use Rattle.protocol.specs.declared.input.Input.{Input}
 use Rattle.turn_rules.specs.declared.caused_step.CausedStep.{CausedStep}
 
 -- The step for what the node is asked is prepared.
-pub record IsCausedStep {D : Type 0} (n : LoggedNode D) (asked : Asked) (r : CausedStep) : Type 0 where
+pub record IsCausedStep {D : Type 0} (n : LoggedNode D) (asked : Asked) (r : CausedStep)
+    : Type 0 where
   pub asks : asked_by r.act ≡ asked
   pub takes : Takes n.node asked (Ok (taken_by n.node r.ready))
   pub may : IsReadyFor n.node r.ready

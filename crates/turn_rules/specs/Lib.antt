@@ -3,8 +3,6 @@ pub mod Answering
 pub mod Calls
 pub mod Choice
 pub mod Laws
-pub mod Live
-pub mod LiveLaws
 pub mod Nays
 pub mod Offered
 pub mod Own
@@ -12,6 +10,7 @@ pub mod Pending
 pub mod PuttingBack
 pub mod CausedSteps
 pub mod Refusals
+pub mod Scheduled
 pub mod Unfailed
 pub mod Wishes
 pub mod inside

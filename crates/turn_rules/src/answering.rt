@@ -11,8 +11,9 @@ ghost use Rattle.std.specs.Prelude.{
   false,
   length,
   map,
+  option_map,
 };
-ghost use Rattle.turn_rules.specs.Answering.{answer_of, built_of, given_for};
+ghost use Rattle.turn_rules.specs.Answering.{answer_if, answer_of, built_of, given_for};
 ghost use Rattle.listing.specs.Tree.{path_at};
 ghost use Rattle.node.specs.Step.{Does};
 ghost use Rattle.node.specs.declared.fault.NodeFault.TheVariants.{Memory as out_of_memory};
@@ -34,6 +35,29 @@ use pkgpath::PkgPath;
 use protocol::ByPath;
 use stable_record::Disk;
 use std::alloc::Global;
+
+/// The answer to the node's job, if it has one and its files are made.
+///
+/// # Errors
+///
+/// Out of memory, if there is an answer.
+pub fn answer_if<D: Disk>(
+    alloc: Global,
+    node: &mut Node<'_, D>,
+    made: Option<&Packages>,
+) -> Result<Option<CausedStep>, NodeFault>
+    requires up { node.old.node.stopped ≡ false }
+    ensures same { node.new ≡ node.old }
+    ensures part { IfOk result (IsPart node.new
+        (answer_if (option_map (λ b. b.now) made.entry) node.old.node.member)) }
+    ensures refused { IfErr result (λ f. (f ≡ out_of_memory)
+        × (answer_if (option_map (λ b. b.now) made.entry) node.old.node.member ≢ None)) }
+{
+    match made {
+        Some(builds) => answer(alloc, node, builds),
+        None => Ok(None),
+    }
+}
 
 /// The answer to the node's job, if it has one: its build from the given files, or that the build
 /// failed, if there aren't files for all packages of the unit.

@@ -1,6 +1,6 @@
 //! How long a receive waits for a datagram.
 ghost use Rattle.std.specs.Prelude.{◌≡◌};
-ghost use Rattle.udp.specs.Waiting.{slow};
+ghost use Rattle.udp.specs.Waiting.{slow, steady};
 
 use std::thread;
 use std::time::{Clock, Duration};
@@ -18,11 +18,16 @@ const LONG_NAP: u64 = 1_000;
 /// The looks of a slow receive: its naps are a second in all.
 const SLOW_LOOKS: u32 = 1_019;
 
+/// The looks of a steady receive: its naps are 20 ms in all.
+const STEADY_LOOKS: u32 = 39;
+
 /// How long a receive waits if nothing came.
 #[derive(Clone, Copy, Debug, PartialEq, Eq)]
 pub enum Hurry {
     /// Not at all: there is other work to do.
     Brief,
+    /// For 20 ms, whatever the port's patience says: other work may come up.
+    Steady,
     /// As long as the port's patience says.
     Patient,
     /// A second, or as long as the port's patience says, if that is longer: there is nothing to do
@@ -55,6 +60,15 @@ impl Patience {
         let own = u32::from(milliseconds) + u32::from(milliseconds) * u32::from(me) / 2;
         Patience {
             looks: 1 + SHORT_NAPS + own,
+        }
+    }
+
+    /// Looks as long as it takes to nap for 20 ms.
+    pub fn steady() -> Patience
+        ensures { result ≡ steady }
+    {
+        Patience {
+            looks: STEADY_LOOKS,
         }
     }
 

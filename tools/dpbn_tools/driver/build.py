@@ -154,11 +154,11 @@ class Build:
                    HOST=job.host, JOB=job_file, DEPS=self.file("deps"), OUT=self.file("out"))
         return env
 
-    def start(self, words: List[str], log: int, grace: float, env: Dict[str, str]) -> None:
-        """Starts the command. Somebody reads the FIFO from before it runs until its supervisor has ended."""
+    def start(self, words: List[str], log: int, grace: float, env: Dict[str, str], begun: int) -> None:
+        """Starts the command. Somebody reads the FIFO from before it runs until its supervisor ends, which has `begun` open so long."""
         control = os.open(self.file("control"), os.O_RDONLY | os.O_NONBLOCK | os.O_CLOEXEC)
         try:
-            self.command = Command(words, "build", control, grace, self.folder, log, env, cwd=self.file("obj"))
+            self.command = Command(words, "build", control, grace, self.folder, log, env, cwd=self.file("obj"), kept=(begun,))
         finally:
             os.close(control)
 

@@ -77,7 +77,6 @@ class BuildSteps:
                 self.store.is_copy_told = True
                 self.lines.tell(f"~ files are copied into DEPS, since {self.store.folder} is on another file system than {self.work.path}")
             build.tell_names(self.names_of(build.job), build.needed or [])
-            self.work.begin(build.job.name)
             self.start(build)
         except BaseException:
             self.work.end(build.job.name)
@@ -87,12 +86,16 @@ class BuildSteps:
         return True
 
     def start(self, build: Build) -> None:
-        log = self.logs.begin(build.job)
+        begun = self.work.begin(build.job.name)
         try:
-            build.header = os.write(log, f"## {time.strftime('%FT%TZ', time.gmtime())}\n".encode() + build.job.text)
-            build.start(self.command, log, self.asked.grace, self.environment(build))
+            log = self.logs.begin(build.job)
+            try:
+                build.header = os.write(log, f"## {time.strftime('%FT%TZ', time.gmtime())}\n".encode() + build.job.text)
+                build.start(self.command, log, self.asked.grace, self.environment(build), begun)
+            finally:
+                os.close(log)
         finally:
-            os.close(log)
+            os.close(begun)
 
     def look_for_earlier(self, build: Build, needed: List[Record]) -> bool:
         """Looks whether the packages were built before on the same bytes, and puts them where a build would have. Returns whether."""

@@ -5,24 +5,26 @@ import os
 import subprocess
 import sys
 import time
-from typing import Callable, Dict, List, Optional, Sequence, Union
+from typing import Callable, Dict, List, Optional, Sequence, Tuple, Union
 
 SUPERVISOR = os.path.join(os.path.dirname(os.path.realpath(__file__)), "supervisor.py")
 File = Union[int, None]
 
 
 class Command:
-    """A command that runs, or has run. What it reports comes by a pipe, which has an end once its supervisor is gone."""
+    """A command that runs, or has run. What it reports comes by a pipe, which has an end once its supervisor is gone. The supervisor
+    watches one descriptor, and keeps others open as long as it runs."""
 
     def __init__(self, words: Sequence[str], kind: str, watched: int, grace: float, folder: str, out: File, env: Dict[str, str],
-                 cwd: Optional[str] = None, close: Callable[[], None] = lambda: None) -> None:
+                 cwd: Optional[str] = None, close: Callable[[], None] = lambda: None, kept: Tuple[int, ...] = ()) -> None:
         self.began, self.text, self.close_end, self.kind = time.monotonic(), b"", close, kind
         self.reads, writes = os.pipe()
         os.set_blocking(self.reads, False)
-        call: List[str] = [sys.executable or "python3", "-I", "-S", SUPERVISOR, kind, str(watched), str(writes), str(grace), folder, *words]
+        numbers = ",".join(map(str, (watched, *kept)))
+        call: List[str] = [sys.executable or "python3", "-I", "-S", SUPERVISOR, kind, numbers, str(writes), str(grace), folder, *words]
         try:
             self.process = subprocess.Popen(call, cwd=cwd, stdin=subprocess.DEVNULL, stdout=out, stderr=out, env=env,
-                                            start_new_session=True, pass_fds=(watched, writes))
+                                            start_new_session=True, pass_fds=(watched, writes, *kept))
         except BaseException:
             os.close(self.reads)
             raise

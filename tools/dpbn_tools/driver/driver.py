@@ -125,6 +125,11 @@ class Driver:
             text = str(error) if isinstance(error, (OSError, BadLimits)) else f"{type(error).__name__}: {error}"
             self.lines.tell_once(f"? it goes on in a while: {text}", (name, type(error), getattr(error, "errno", None)))
 
+    def tell_refused(self, job: Job, error: Exception) -> None:
+        """Prints what was refused to a job, which is tried again in a while."""
+        text = str(error) if isinstance(error, OSError) else f"{type(error).__name__}: {error}"
+        self.lines.tell_once(f"? {job} waits: {text}", ("refused", job.name, type(error), getattr(error, "errno", None)))
+
     def wait(self) -> None:
         """Waits until something may have happened."""
         numbers = [self.tasks.reads]
@@ -212,7 +217,12 @@ class Driver:
         for build in list(self.builds):
             # this reads the end of its pipe, too, for which nobody waits any more once it is over
             is_gone = build.is_gone()
-            self.look_at_build(build)
+            try:
+                self.look_at_build(build)
+            except Exception as error:
+                # what is refused to one build keeps no other back
+                build.due = time.monotonic() + PATIENCE
+                self.tell_refused(build.job, error)
             if build.state is State.GONE and not build.is_busy and is_gone:
                 self.builds.remove(build)
 
@@ -260,10 +270,15 @@ class Driver:
         for name, posted in self.jobs.items():
             if name in answered or name in there or time.monotonic() < posted.due or self.is_ending:
                 continue
-            if self.is_ready(posted, may_begin) and may_begin and used < self.health.most(self.places) and self.has_room(posted):
-                if not self.work.has_answer(name):
-                    self.begin(posted)
-                    used += 1
+            try:
+                if self.is_ready(posted, may_begin) and may_begin and used < self.health.most(self.places) and self.has_room(posted):
+                    if not self.work.has_answer(name):
+                        self.begin(posted)
+                        used += 1
+            except Exception as error:
+                # what is refused to one job keeps no other back
+                posted.due = time.monotonic() + PATIENCE
+                self.tell_refused(posted.job, error)
 
     def may_begin(self) -> bool:
         """Whether anything may begin at all."""
@@ -274,7 +289,7 @@ class Driver:
                 self.lines.tell("~ nothing runs here any more")
             return False
         self.is_stopped = False
-        return not self.health.is_away()
+        return not (self.health.is_away() or self.work.is_away())
 
     def has_room(self, posted: Posted) -> bool:
         """Whether there is as much free disk as the job wants, and no other build of its unit runs."""
@@ -406,8 +421,8 @@ class Driver:
             self.fetches.keep_only([digest for posted in self.jobs.values() for digest in posted.unsure])
             self.odd = {name: due for name, due in self.odd.items() if due > now - PATIENCE}
             self.health.keep_only({str(posted.job) for posted in self.jobs.values()})
-            if self.health.short and not self.jobs:
-                # the node gave them all to others, so that none is there to be asked for
+            if self.health.short:
+                # nothing begins meanwhile, so that no job asks for it
                 self.health.set_short(self.lacking_disk(self.least))
         if now >= self.clear_due:
             self.clear_due = now + 3600
@@ -446,9 +461,18 @@ class Driver:
 
     def is_wanted(self, build: Build) -> bool:
         """Whether the driver's end waits for this build. That one failed isn't reported now: what ended it may be ending the host."""
-        if build.state is State.OVER and not build.is_busy and self.endings.is_failure(build):
-            build.dropped = build.dropped or "this driver ends"
+        if build.state is State.OVER and not build.is_busy:
+            if self.endings.is_failure(build):
+                build.dropped = build.dropped or "this driver ends"
+            elif self.is_left(build):
+                return False
         return build.state is not State.GONE or build.is_busy
+
+    def is_left(self, build: Build) -> bool:
+        """Whether a build of an earlier run stays for the next one: it has no job, or the log hasn't all that it was built on."""
+        if build.command or build.is_reused or build.dropped:
+            return False
+        return build.job.name not in self.jobs or build.needed is None and self.held.needed(build.job.built) is None
 
 
 def is_worth(build: Build) -> bool:

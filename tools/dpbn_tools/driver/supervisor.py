@@ -1,13 +1,14 @@
 """Runs one command for the driver, as a process of its own that outlives the driver if need be.
 
-    supervisor.py build CONTROL REPORT GRACE FOLDER COMMAND [ARGUMENT ..]
+    supervisor.py build CONTROL,BEGUN REPORT GRACE FOLDER COMMAND [ARGUMENT ..]
     supervisor.py helper LIFE REPORT GRACE - COMMAND [ARGUMENT ..]
 
-The command runs in a process group of its own. When it ends, what is left of that group is killed. CONTROL, LIFE and REPORT are numbers
-of descriptors that the command doesn't get, so that it can't close them.
+The command runs in a process group of its own. When it ends, what is left of that group is killed. CONTROL, BEGUN, LIFE and REPORT are
+numbers of descriptors that the command doesn't get, so that it can't close them.
 
 A build goes on without its driver. CONTROL reads the FIFO `control` in the build's folder: as long as this process runs somebody reads
-there, and a byte that is written there asks it to end the build. After a build that ended with 0, the files below FOLDER/out are synced.
+there, and a byte that is written there asks it to end the build. BEGUN is the file that shows the job as begun, which is locked as long
+as this process runs. After a build that ended with 0, the files below FOLDER/out are synced.
 How it ended is written into FOLDER/status, which the driver made as long as it has to be, so that a full disk can't keep it from that.
 
 A helper ends with its driver: LIFE is the end of a pipe that the driver holds.
@@ -216,9 +217,10 @@ class Supervisor:
 
 def main() -> None:
     kind, watched, report, grace, folder, *command = sys.argv[1:]
-    for number in (watched, report):
-        os.set_inheritable(int(number), False)
-    Supervisor(kind, int(watched), int(report), float(grace), folder).run(command)
+    numbers = [int(number) for number in watched.split(",")]
+    for number in (*numbers, int(report)):
+        os.set_inheritable(number, False)
+    Supervisor(kind, numbers[0], int(report), float(grace), folder).run(command)
     # the driver goes on as soon as its pipe has an end
     os._exit(0)
 

@@ -15,6 +15,8 @@ class Tasks:
     """Threads, and what is to be done in the loop when one of them has ended. The loop is woken by a byte in a pipe."""
 
     def __init__(self) -> None:
+        # those for which there was no thread yet
+        self.waiting: Deque[Tuple[Callable[[], object], Callable[..., None]]] = collections.deque()
         self.over: Deque[Tuple[Then, object, Optional[Exception]]] = collections.deque()
         self.reads, self.writes = os.pipe()
         os.set_blocking(self.reads, False)
@@ -22,10 +24,21 @@ class Tasks:
         self.running = 0
 
     def start(self, work: Callable[[], Result], then: Callable[[Optional[Result], Optional[Exception]], None]) -> None:
-        """Does the work in a thread, and then calls `then` in the loop."""
+        """Does the work in a thread, and then calls `then` in the loop. If the system has no thread for it now, it waits for one."""
         self.running += 1
-        # a thread whose file system doesn't answer must not keep the driver from ending
-        threading.Thread(target=self.run, args=(work, then), daemon=True).start()
+        self.waiting.append((work, then))
+        self.begin()
+
+    def begin(self) -> None:
+        """Begins what waits for a thread, as far as there are any."""
+        while self.waiting:
+            # a thread whose file system doesn't answer must not keep the driver from ending
+            thread = threading.Thread(target=self.run, args=self.waiting[0], daemon=True)
+            try:
+                thread.start()
+            except (RuntimeError, MemoryError):
+                return
+            self.waiting.popleft()
 
     def run(self, work: Callable[[], object], then: Then) -> None:
         result: object = None
@@ -45,7 +58,8 @@ class Tasks:
             pass
 
     def look(self) -> None:
-        """Calls what is to be called for those that have ended."""
+        """Calls what is to be called for those that have ended, and begins what waits."""
+        self.begin()
         try:
             os.read(self.reads, 65536)
         except BlockingIOError:

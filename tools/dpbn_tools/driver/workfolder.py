@@ -20,6 +20,9 @@ HEARTBEAT, FRESH = 10, 25
 COARSE = 0.1
 # how long the work folder has to be another one before that is believed
 GONE = 2
+# how long a lock is tried, and how long is waited between, in seconds: a node that looks whether anybody holds it has it for a moment, and
+# so has a process that a driver was about to start when it was killed; on a busy machine that may be longer
+LONGEST_MOMENT, MOMENT = 2, 0.02
 # errors of file systems that have no locks
 NO_LOCKS = {errno.ENOLCK, errno.ENOSYS, errno.EINVAL, errno.EOPNOTSUPP, errno.ENOTSUP}
 
@@ -52,6 +55,19 @@ def put(folder: str, name: str, parts: Iterable[str]) -> None:
             os.unlink(new)
         raise
     sync(folder)
+
+
+def lock(number: int) -> None:
+    """Locks the open file. Raises BlockingIOError if somebody else holds its lock."""
+    end = time.monotonic() + LONGEST_MOMENT
+    while True:
+        try:
+            fcntl.flock(number, fcntl.LOCK_EX | fcntl.LOCK_NB)
+            return
+        except BlockingIOError:
+            if time.monotonic() >= end:
+                raise
+        time.sleep(MOMENT)
 
 
 class Names:
@@ -91,7 +107,7 @@ class WorkFolder:
         """Locks the folder. Returns why that can't be, or nothing."""
         self.locked = os.open(f"{self.path}/lock", os.O_RDWR | os.O_CREAT | os.O_CLOEXEC, 0o666)
         try:
-            fcntl.flock(self.locked, fcntl.LOCK_EX | fcntl.LOCK_NB)
+            lock(self.locked)
         except BlockingIOError:
             return f"another one works on {self.path}"
         except OSError as error:
@@ -171,14 +187,22 @@ class WorkFolder:
             with contextlib.suppress(FileNotFoundError):
                 os.unlink(f"{self.path}/{name}")
 
-    def begin(self, name: str) -> None:
-        """Shows that the job has begun, before its command does."""
-        number = os.open(f"{self.path}/begun/{name}", os.O_WRONLY | os.O_CREAT | os.O_CLOEXEC, 0o666)
+    def begin(self, name: str) -> int:
+        """Shows that the job has begun, before its command does. Returns the file, which is locked as long as it is open: a build may
+        outlive its driver."""
+        number = os.open(f"{self.path}/begun/{name}", os.O_RDWR | os.O_CREAT | os.O_CLOEXEC, 0o666)
         try:
+            try:
+                lock(number)
+            except OSError as error:
+                if error.errno not in NO_LOCKS:
+                    raise
             os.fsync(number)
-        finally:
+            sync(f"{self.path}/begun")
+        except BaseException:
             os.close(number)
-        sync(f"{self.path}/begun")
+            raise
+        return number
 
     def end(self, name: str) -> None:
         """Shows that the job's build is over."""
@@ -189,6 +213,9 @@ class WorkFolder:
 
     def is_stopped(self) -> bool:
         return os.path.lexists(f"{self.path}/stop")
+
+    def is_away(self) -> bool:
+        return os.path.lexists(f"{self.path}/away")
 
     def set_away(self, why: str) -> None:
         put(self.path, "away", [f"{why}\n"])

@@ -2,7 +2,7 @@
 use Rattle.std.specs.Prelude.{◌≡◌, ◌⊎◌, ℕ, Vec, true, false, List, [], ◌∷◌, Option, Some, Result, is_some, length, option_and_then, option_map}
 use Rattle.std.specs.declared.alloc.Global.{Global}
 use Rattle.turn_rules.specs.Answering.{answer_of}
-use Rattle.turn_rules.specs.Choice.{Chosen, IsFirstOwn, IsOwnIf, comes_to}
+use Rattle.turn_rules.specs.Choice.{Chosen, comes_to}
 use Rattle.turn_rules.specs.Pending.{Pending}
 use Rattle.turn_rules.specs.declared.fault.TurnFault.{TurnFault}
 use Rattle.turn_rules.specs.declared.fault.TurnFault.TheVariants.{Memory, Node, NotSent}
@@ -18,7 +18,7 @@ use Rattle.datagram_ports.specs.declared.fault.PortFault.{PortFault}
 use Rattle.protocol.specs.Given.{Given}
 use Rattle.protocol.specs.declared.input.Input.{Input}
 use Rattle.cluster_turns.specs.Choosing.{IsChosenAs, IsPartAt, RefusesAt}
-use Rattle.cluster_turns.specs.Handed.{Handed, IsLeftToDo}
+use Rattle.cluster_turns.specs.Choice.{IsFirstOwn, IsOwnIf}
 use Rattle.cluster_turns.specs.Here.{here_in}
 use Rattle.cluster_turns.specs.declared.chosen.Chosen.{Chosen as PreparedStep}
 
@@ -92,29 +92,3 @@ IsFirstFault nodes p ks f =
     ⊎ ((k : ℕ) × (input : Input) × (g : NodeFault) × (f ≡ Node g)
     × IsFirstOwn (here_in nodes) (length nodes) p ks (Some (k, Does input))
     × RefusesAt nodes k (Does input) g)
-
--- What is left to do, if anything, was prepared.
-abbrev pub IsLeftPart : {D : Type 0} → List (LoggedNode D) → Pending → Handed → Option PreparedStep
-    → Type 0
-IsLeftPart nodes p handed r =
-    (chosen : Chosen) × IsLeftToDo handed (here_in nodes) (length nodes) p chosen
-    × IsChosenAs nodes chosen r
-
--- Memory ran out and something is left to do, or the chosen node refuses that.
-abbrev pub IsLeftFault : {D : Type 0} → List (LoggedNode D) → Pending → Handed → TurnFault
-    → Type 0
-IsLeftFault nodes p handed f =
-    ((f ≡ Memory) × ((k : ℕ) × (input : Input)
-    × IsLeftToDo handed (here_in nodes) (length nodes) p (Some (k, Does input))))
-    ⊎ ((k : ℕ) × (input : Input) × (g : NodeFault) × (f ≡ Node g)
-    × IsLeftToDo handed (here_in nodes) (length nodes) p (Some (k, Does input))
-    × RefusesAt nodes k (Does input) g)
-
--- ---- if builds are made while nodes run
-
--- Memory ran out and a node is to do something, or it refuses that.
-abbrev pub IsNotDone : {D : Type 0} → List (LoggedNode D) → Chosen → TurnFault → Type 0
-IsNotDone nodes chosen f =
-    ((f ≡ Memory) × ((k : ℕ) × (input : Input) × (chosen ≡ Some (k, Does input))))
-    ⊎ ((k : ℕ) × (input : Input) × (g : NodeFault) × (f ≡ Node g)
-    × (chosen ≡ Some (k, Does input)) × RefusesAt nodes k (Does input) g)

@@ -6,7 +6,6 @@ use Rattle.turn_rules.specs.declared.fault.TurnFault.{TurnFault}
 use Rattle.turn_rules.specs.declared.fault.TurnFault.TheVariants as refused
 use Rattle.cluster_turns.specs.Choosing.{HasChosen, IsChoosingFault, IsReadiedAt, told}
 use Rattle.cluster_turns.specs.Events.{event_of}
-use Rattle.cluster_turns.specs.Handed.{Handed}
 use Rattle.cluster_turns.specs.declared.chosen.Chosen.{Chosen as PreparedStep}
 use Rattle.protocol.specs.Events.{Event, StopIn, event_view}
 use Rattle.protocol.specs.declared.event.Event as declared
@@ -23,6 +22,7 @@ use Rattle.turn_rules.specs.Offered.{Answered, parcels_from, sends_of}
 use Rattle.datagram_ports.specs.Calls.{Call, WentThrough}
 use Rattle.datagram_ports.specs.Kept.{Arrived, GoesOnBy, Parcel}
 use Rattle.datagram_ports.specs.declared.fault.PortFault.{PortFault}
+use Rattle.protocol.specs.Given.{Given}
 use Rattle.stable_record.specs.Faults.{HasRisen}
 use Rattle.stable_record.specs.History.{History}
 use Rattle.stable_record.specs.declared.log_fault.LogFault.TheVariants as log
@@ -178,8 +178,8 @@ pub record StandsStill {D P : Type 0} (is_kept : D → Type 0) (history : D → 
 
 -- The node went down during the step of the event, and nothing else changed.
 pub record GoesDown {D P : Type 0} (is_kept : D → Type 0) (history : D → History)
-    (failures : D → ℕ) (offered : P → Option (List Parcel)) (old new : Turning D P) (r : PreparedStep)
-    (e : Event) : Type 0 where
+    (failures : D → ℕ) (offered : P → Option (List Parcel)) (old new : Turning D P)
+    (r : PreparedStep) (e : Event) : Type 0 where
   pub due : IsDue old.nodes old.sent r e
   pub after : LoggedNode D
   pub nodes : new.nodes ≡ slice_set old.nodes r.node after
@@ -190,8 +190,8 @@ pub record GoesDown {D P : Type 0} (is_kept : D → Type 0) (history : D → His
   pub offers : GoesOnBy [] (offered old.port) (offered new.port)
 
 -- The event's node has no room for its note.
-pub record HasNoRoom {D : Type 0} (nodes : List (LoggedNode D)) (sent : List Text) (r : PreparedStep)
-    : Type 0 where
+pub record HasNoRoom {D : Type 0} (nodes : List (LoggedNode D)) (sent : List Text)
+    (r : PreparedStep) : Type 0 where
   pub event : Event
   pub due : IsDue nodes sent r event
   pub lacks : LacksRoom due.at.node.log (note_in r.readied.ready.step)
@@ -214,29 +214,29 @@ IsTakenAs is_kept history failures offered old new r (Err refused.NotFresh) = �
 
 -- This was prepared, as the turn's choice.
 abbrev pub IsMadeReady : {D P : Type 0} → (P → Option (List Arrived)) → Turning D P → Turning D P
-    → Handed → Option PreparedStep → Type 0
-IsMadeReady given old new handed r =
-    HasChosen old.nodes old.sent old.pending handed (given old.port) (given new.port) r
+    → Given → Option PreparedStep → Type 0
+IsMadeReady given old new builds r =
+    HasChosen old.nodes old.sent old.pending builds (given old.port) (given new.port) r
 
 -- Nothing was prepared, for this reason.
 abbrev pub IsNotMadeReady : {D P : Type 0} → (P → Option (List Arrived)) → Turning D P → Turning D P
-    → Handed → TurnFault → Type 0
-IsNotMadeReady given old new handed f =
-    IsChoosingFault old.nodes old.sent old.pending handed (given old.port) (given new.port) f
+    → Given → TurnFault → Type 0
+IsNotMadeReady given old new builds f =
+    IsChoosingFault old.nodes old.sent old.pending builds (given old.port) (given new.port) f
 
 -- What a turn is. Either nothing was prepared and nothing changed; or there was nothing to do; or
 -- what was chosen was taken, or was not.
 abbrev pub IsTurn : {D P : Type 0} → (D → Type 0) → (D → History) → (D → ℕ)
     → (P → Option (List Arrived)) → (P → Option (List Parcel)) → Turning D P → Turning D P
-    → Handed → Result (Option declared.Event) TurnFault → Type 0
-IsTurn is_kept history failures given offered old new handed (Ok None) =
-    IsMadeReady given old new handed None × StandsStill is_kept history offered old new
-IsTurn is_kept history failures given offered old new handed (Ok (Some e)) =
-    (r : PreparedStep) × IsMadeReady given old new handed (Some r)
+    → Given → Result (Option declared.Event) TurnFault → Type 0
+IsTurn is_kept history failures given offered old new builds (Ok None) =
+    IsMadeReady given old new builds None × StandsStill is_kept history offered old new
+IsTurn is_kept history failures given offered old new builds (Ok (Some e)) =
+    (r : PreparedStep) × IsMadeReady given old new builds (Some r)
     × IsTakenAs is_kept history failures offered old new r (Ok e)
-IsTurn is_kept history failures given offered old new handed (Err f) =
-    (IsNotMadeReady given old new handed f × StandsStill is_kept history offered old new)
-    ⊎ ((r : PreparedStep) × IsMadeReady given old new handed (Some r)
+IsTurn is_kept history failures given offered old new builds (Err f) =
+    (IsNotMadeReady given old new builds f × StandsStill is_kept history offered old new)
+    ⊎ ((r : PreparedStep) × IsMadeReady given old new builds (Some r)
     × IsTakenAs is_kept history failures offered old new r (Err f))
 
 -- ---- by the port's calls
@@ -265,9 +265,9 @@ pub record IsTakenByCalls {D P : Type 0} (is_kept : D → Type 0) (history : D �
 
 -- The port answered these calls, and no others. Seen by them, it is the turn.
 pub record IsTurnByCalls {D P : Type 0} (is_kept : D → Type 0) (history : D → History)
-    (failures : D → ℕ) (does : P → Call → P → Type 0) (old new : Turning D P) (handed : Handed)
+    (failures : D → ℕ) (does : P → Call → P → Type 0) (old new : Turning D P) (builds : Given)
     (result : Result (Option declared.Event) TurnFault) : Type 0 where
   pub calls : TurnCalls
   pub went : WentThrough does old.port (calls_of calls) new.port
   pub so : IsTurn is_kept history failures given_in offered_in (by_calls old no_calls)
-      (by_calls new calls) handed result
+      (by_calls new calls) builds result

@@ -1,24 +1,26 @@
-use Rattle.std.proofs.Common.{List, map}
-use Rattle.clap.specs.Words.{Text, subcommand_rows_of}
-use Rattle.clap.proofs.KindLemmas.{fails_by_from}
-use Rattle.dpbn_cli.specs.Calls.{faults_of}
-use Rattle.dpbn_cli.proofs.Refused.{by_call, by_clap, nothing_left}
+use Rattle.std.proofs.Common.{◌∙◌, IfOk, List, map, refl, subst, sym}
+use Rattle.clap.specs.Words.{FailsBy, Text}
+use Rattle.dpbn_cli.specs.Calls.{IsCallOf}
+use Rattle.dpbn_cli.specs.declared.Call.TheVariants.{Release}
+use Rattle.dpbn_cli.proofs.Released.{other_faults, other_matched, release_faultless, release_matched}
 use Rattle.dpbn_cli.proofs.dpbn_words.Goals as goal
 
-pub returns-in_err-matches-clause-faults : goal.returns-in_err-matches-clause-faults
-returns-in_err-matches-clause-faults g c =
+pub returns-then-asks_release-clause-call : goal.returns-then-asks_release-clause-call
+returns-then-asks_release-clause-call g c =
     let words : List Text = map g.S.AsStr.text c.args.words.now in
-    fails_by_from (faults_of words) c.from_residual.result c.in_err-matches.field-0.0
-    (by_clap words c.in_err-matches.field-0.0 c.in_err-matches.ensures.faults) c.from_residual.ensures.0 c.from_residual.ensures.1
+    subst (λ m. IsCallOf m Release) (sym (release_matched words (sym c.asks_release.ensures ∙ c.if-asks_release.true))) refl
 
-pub returns-in-Ok-clause-faults : goal.returns-in-Ok-clause-faults
-returns-in-Ok-clause-faults g c =
+pub returns-then-asks_release-clause-faults : goal.returns-then-asks_release-clause-faults
+returns-then-asks_release-clause-faults g c =
     let words : List Text = map g.S.AsStr.text c.args.words.now in
-    nothing_left words (subcommand_rows_of c.in_ok-matches.matches) c.in_ok-matches.ensures.faults c.in_ok-matches.ensures.matched
-    c.in-Ok.ensures.sound
+    release_faultless words (sym c.asks_release.ensures ∙ c.if-asks_release.true)
 
-pub returns-clause-faults : goal.returns-clause-faults
-returns-clause-faults g c =
+pub returns-else-asks_release-clause-call : goal.returns-else-asks_release-clause-call
+returns-else-asks_release-clause-call g c =
     let words : List Text = map g.S.AsStr.text c.args.words.now in
-    by_call words (subcommand_rows_of c.in_ok-matches.matches) c.in_ok-matches.ensures.faults c.in_ok-matches.ensures.matched
-    c.in_ok-refusal-in-Err.field-0 c.in-Err.kind c.in_ok-refusal-in-Err.ensures c.in-Err.ensures.kind
+    subst (λ m. IfOk c.parsed.result (IsCallOf m)) (sym (other_matched words (sym c.asks_release.ensures ∙ c.if-asks_release.false))) c.parsed.ensures.call
+
+pub returns-else-asks_release-clause-faults : goal.returns-else-asks_release-clause-faults
+returns-else-asks_release-clause-faults g c =
+    let words : List Text = map g.S.AsStr.text c.args.words.now in
+    subst (λ ks. FailsBy ks c.parsed.result) (sym (other_faults words (sym c.asks_release.ensures ∙ c.if-asks_release.false))) c.parsed.ensures.faults

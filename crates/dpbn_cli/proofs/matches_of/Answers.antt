@@ -3,7 +3,7 @@
 use Rattle.std.proofs.Common.{◌≡◌, ◌∙◌, ap, map, refl, subst, true, List}
 use Rattle.std.proofs.lemmas.Result.{IfOk-weaker}
 use Rattle.clap.specs.Words.{App, FailsBy, Text, fault_of, is_simple, is_simple_and_free, subcommand_of}
-use Rattle.dpbn_cli.specs.Calls.{dpbn_app, matched}
+use Rattle.dpbn_cli.specs.Calls.{dpbn_app}
 use Rattle.dpbn_cli.proofs.matches_of.Goals as goal
 
 dpbn_is_simple : is_simple dpbn_app ≡ true
@@ -15,7 +15,6 @@ unfolding dpbn_app
 dpbn_is_free = refl
 
 pub returns-clause-matched : goal.returns-clause-matched
-unfolding matched
 returns-clause-matched g c =
     let same = c.in_ok-command.ensures in
     let words : List Text = map g.S.AsStr.text c.args.words.now in

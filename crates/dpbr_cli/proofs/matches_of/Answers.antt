@@ -3,7 +3,7 @@
 use Rattle.std.proofs.Common.{◌≡◌, ◌∙◌, ap, map, refl, subst, true, List}
 use Rattle.std.proofs.lemmas.Result.{IfOk-weaker}
 use Rattle.clap.specs.Words.{App, FailsBy, Text, fault_of, is_simple, is_simple_and_free, subcommand_of}
-use Rattle.dpbr_cli.specs.Calls.{dpbr_app, faults_of, matched}
+use Rattle.dpbr_cli.specs.Calls.{dpbr_app}
 use Rattle.dpbr_cli.proofs.matches_of.Goals as goal
 
 dpbr_is_simple : is_simple dpbr_app ≡ true
@@ -15,7 +15,6 @@ unfolding dpbr_app
 dpbr_is_free = refl
 
 pub returns-clause-matched : goal.returns-clause-matched
-unfolding matched
 returns-clause-matched g c =
     let same = c.in_ok-command.ensures in
     let words : List Text = map g.S.AsStr.text c.args.words.now in
@@ -24,7 +23,6 @@ returns-clause-matched g c =
     c.try_get_matches_from.ensures.matches
 
 pub returns-clause-faults : goal.returns-clause-faults
-unfolding faults_of
 returns-clause-faults g c =
     let same = c.in_ok-command.ensures in
     let words : List Text = map g.S.AsStr.text c.args.words.now in

@@ -1,35 +1,15 @@
--- Which matches are those of a call.
-use Rattle.std.specs.Prelude.{◌≡◌, ◌⊎◌, codes, fold, ℕ, pos, List, [], ◌∷◌, Option, None, Some}
-use Rattle.clap.specs.Words.{App, IsSignedIn, Row, Text, new_app, one_of, with_rule, without_minus}
-use Rattle.dpbr_cli.specs.Calls.{IsWord, number, word}
+-- Which matches are those of a call, and what a refusal says of them.
+use Rattle.std.specs.Prelude.{List, Option}
+use Rattle.clap.specs.Words.{IsAmong, Row, Text}
+use Rattle.clap.specs.declared.error.kind.ErrorKind.{ErrorKind}
+use Rattle.dpbr_cli.specs.Calls.{call_fault}
+use Rattle.dpbr_cli.specs.declared.call_table.TheConstants.{CALLS}
+use Rattle.dpbr_cli.specs.shared.Matches.{HasCall}
 
--- a word was matched for each of two arguments
-abbrev pub HasBoth : List Row → Text → Text → Type 0
-HasBoth rows one other = ((t : Text) × IsWord rows one t) × ((t : Text) × IsWord rows other t)
-
--- a number from 0 to this maximum was matched for the argument
-abbrev pub HasNumber : List Row → Text → ℕ → Type 0
-HasNumber rows id most =
-    (t : Text) × IsSignedIn (pos 0) (pos most) t × (one_of id rows ≡ Some (without_minus t))
-
--- a word or a number was matched for each argument of `wayon`
-pub record NamesWay (rows : List Row) : Type 0 where
-  pub files : HasBoth rows (codes "LISTING") (codes "TRACE")
-  pub node : HasNumber rows (codes "NODE") 255
-  pub rest : HasBoth rows (codes "PATH") (codes "BUILDS")
-  pub host : HasNumber rows (codes "HOST") 65535
-
--- clap matched a call's subcommand, and a word or number for each of its arguments
+-- clap matched a call's subcommand, and a value for each of its arguments
 abbrev pub NamesCall : Option (Text × List Row) → Type 0
-NamesCall None = ⊥
-NamesCall (Some (name, rows)) =
-    ((name ≡ codes "status") × HasBoth rows (codes "LISTING") (codes "HELD"))
-    ⊎ ((name ≡ codes "audit") × HasBoth rows (codes "LISTING") (codes "LIST"))
-    ⊎ ((name ≡ codes "run") × HasBoth rows (codes "LISTING") (codes "TRACE"))
-    ⊎ ((name ≡ codes "wayon") × NamesWay rows)
+NamesCall = HasCall (λ text. text.now) (λ rows. rows.now) (λ lists. lists.now) CALLS
 
--- the arguments of `wayon` up to its path, as a command of their own
-abbrev pub wayon_front : App
-wayon_front = fold with_rule (new_app (codes "wayon"))
-    (word (codes "LISTING") ∷ word (codes "TRACE") ∷ number (codes "NODE") 255
-    ∷ word (codes "PATH") ∷ [])
+-- matches that are those of a call are refused for a fault of this kind
+abbrev pub RefusesBy : Option (Text × List Row) → ErrorKind → Type 0
+RefusesBy matched kind = NamesCall matched → IsAmong kind (call_fault matched)

@@ -1,4 +1,4 @@
-//! What there is of the build for which a job of the node waits, and jobs that are handed out.
+//! The state of the build for the node's job, and how jobs are handed out.
 ghost use Rattle.std.specs.Prelude.{◌≡◌, IfErr, IfOk, None, Ok, OnErr, OnOk};
 ghost use Rattle.scheduler.specs.Keeping.{IsSameButOut};
 ghost use Rattle.scheduler.specs.Looking.{IsLook, out_with_job, unit_of_job};
@@ -15,16 +15,15 @@ use job_folder::{Answer, Name, WorkFault};
 use member::Member;
 
 impl Desk<'_> {
-    /// What there is of the build for which the member's job waits, if it has one. A job that was
-    /// not handed out before is handed out, unless its answer is there already; so is one whose
-    /// file is gone.
+    /// The state of the build for the member's job, if it has one that this host didn't give back.
+    /// The job is handed out if it isn't out yet, or if its file is gone, unless it has an answer.
     ///
     /// # Errors
     ///
-    /// Memory; what the system refused.
+    /// Out of memory; what the system refused.
     pub fn look(&mut self, rt: &HostRuntime, member: &Member<'_>) -> Result<Look, WorkFault>
         ensures out { OnOk result
-            (self.new.out.items ≡ out_with_job member.now self.old.out.items) }
+            (self.new.out.items ≡ out_with_job member.now self.old) }
         ensures seen { IfOk result IsLook }
         ensures left { OnErr result (self.new.out.items ≡ self.old.out.items) }
         ensures rest { IsSameButOut self.old self.new }
@@ -38,11 +37,13 @@ impl Desk<'_> {
         let Some(unit) = member.units().find(&job.path) else {
             return Ok(Look::NotYet);
         };
+        if self.returned.contains(&unit) {
+            return Ok(Look::NotYet);
+        }
         self.looked_for(rt, member.tree_digest(), job, unit)
     }
 
-    /// What there is of the build of the job, which is for the unit, by the digest of what is
-    /// listed.
+    /// The state of the build for this job of the unit, in the tree with this digest.
     fn looked_for(
         &mut self,
         rt: &HostRuntime,
@@ -65,8 +66,8 @@ impl Desk<'_> {
         Ok(look)
     }
 
-    /// Hands out the job of the unit, if that is not out: a new one is posted, and so is one whose
-    /// file is gone.
+    /// Hands out the unit's job if it isn't out. A new job is posted, and so is one whose file is
+    /// gone.
     fn hand_out(
         &mut self,
         rt: &HostRuntime,
@@ -92,8 +93,8 @@ impl Desk<'_> {
         Ok(())
     }
 
-    /// Whether the job of this name is posted. What the system refuses to tell counts as that it is
-    /// not.
+    /// Whether the job of this name is posted. If the system refuses to say, it counts as not
+    /// posted.
     fn is_posted(&self, rt: &HostRuntime, name: &Name) -> bool {
         matches!(self.folder.is_posted(rt, name), Ok(true))
     }

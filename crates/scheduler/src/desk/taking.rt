@@ -1,7 +1,7 @@
-//! What a desk keeps of what its node did.
-ghost use Rattle.std.specs.Prelude.{◌≡◌, IfErr, OnErr, OnOk};
+//! How a desk follows its node's steps.
+ghost use Rattle.std.specs.Prelude.{◌≡◌, ◌==◌, IfErr, OnErr, OnOk, filter, not};
 ghost use Rattle.scheduler.specs.Keeping.{IsSameButAsked, IsSameButMoved, IsSameButTaken};
-ghost use Rattle.scheduler.specs.Taking.{IsQuestionKept, KeepsQuestion, KeepsQuestionOf, asked_by, behind, failed_by, unit_asked, unit_failed, with_asked, with_failed, without_unit};
+ghost use Rattle.scheduler.specs.Taking.{IsQuestionKept, IsPressed, IsReturnedBut, KeepsHeard, KeepsQuestion, KeepsQuestionOf, claimed_by, failed_by, place_after, unit_claimed, unit_failed, with_failed, without_unit};
 ghost use Rattle.engine.specs.Division.{number_found};
 ghost use Rattle.listing.specs.Tree.{position_of};
 ghost use Rattle.job_folder.specs.Refusals.{IsOfSystem};
@@ -16,12 +16,11 @@ use std::time::Instant;
 use turn_rules::Act;
 
 impl Desk<'_> {
-    /// Keeps what follows of what the node did. (What it was wished it may not have done.)
+    /// Updates the desk after a step of the node, be it the one that the desk wished or not.
     ///
     /// # Errors
     ///
-    /// Memory; what the system refused. What is out, what failed, and for what was asked is then as
-    /// it was.
+    /// Out of memory; what the system refused. What is out and what failed is then as it was.
     pub fn took(
         &mut self,
         rt: &HostRuntime,
@@ -34,23 +33,24 @@ impl Desk<'_> {
         ensures failed { OnOk result (self.new.failed.entries
             ≡ with_failed self.old.failed.entries self.old.out.items
             (failed_by member.now act.now)) }
-        ensures asked { OnOk result (self.new.asked.keys
-            ≡ with_asked self.old.asked.keys (asked_by member.now act.now)) }
+        ensures returned { OnOk result
+            (IsReturnedBut self.old (claimed_by member.now act.now) self.new) }
+        ensures heard { OnOk result
+            (KeepsHeard member.now act.now now self.old self.new) }
         ensures question { OnOk result
             (KeepsQuestionOf member.now act.now now self.old self.new) }
         ensures left { OnErr result ((self.new.out.items ≡ self.old.out.items)
-            × (self.new.failed.entries ≡ self.old.failed.entries)
-            × (self.new.asked.keys ≡ self.old.asked.keys)) }
+            × (self.new.failed.entries ≡ self.old.failed.entries)) }
         ensures rest { IsSameButTaken self.old self.new }
         ensures refused { IfErr result IsOfSystem }
     {
         match act {
             Act::Own(input) => self.took_input(rt, member, input, now),
-            Act::Datagram(_) => Ok(()),
+            Act::Datagram(bytes) => Ok(self.hear(member, bytes.as_slice(), now)?),
         }
     }
 
-    /// Keeps what follows of what the member was asked.
+    /// Updates the desk after a step of the node's own.
     fn took_input(
         &mut self,
         rt: &HostRuntime,
@@ -63,43 +63,57 @@ impl Desk<'_> {
         ensures failed { OnOk result (self.new.failed.entries
             ≡ with_failed self.old.failed.entries self.old.out.items
             (unit_failed member.now input.now)) }
-        ensures asked { OnOk result (self.new.asked.keys
-            ≡ with_asked self.old.asked.keys (unit_asked member.now input.now)) }
+        ensures returned { OnOk result
+            (IsReturnedBut self.old (unit_claimed member.now input.now) self.new) }
+        ensures heard { (self.new.named ≡ self.old.named)
+            × (self.new.given_back ≡ self.old.given_back) }
         ensures question { OnOk result
             (KeepsQuestion member.now input.now now self.old self.new) }
         ensures left { OnErr result ((self.new.out.items ≡ self.old.out.items)
-            × (self.new.failed.entries ≡ self.old.failed.entries)
-            × (self.new.asked.keys ≡ self.old.asked.keys)) }
+            × (self.new.failed.entries ≡ self.old.failed.entries)) }
         ensures rest { IsSameButTaken self.old self.new }
         ensures refused { IfErr result IsOfSystem }
     {
         match input {
-            Input::Ask { path } => Ok(self.asked_for(member, path, now)?),
+            Input::Ask { path } => {
+                self.asked_for(member, path, now);
+                Ok(())
+            }
             Input::Failed { path } => self.fail(rt, member, path),
-            Input::Claim { .. } | Input::Built { .. } | Input::Nudge | Input::Message(_) => Ok(()),
+            Input::Claim { path, .. } => {
+                self.claimed(member, path);
+                Ok(())
+            }
+            Input::Built { .. } | Input::Nudge | Input::Message(_) => Ok(()),
         }
     }
 
-    /// Keeps that the others were asked for what the path names.
-    fn asked_for(&mut self, member: &Member<'_>, path: &PkgPath, now: Instant) -> Result<(), Memory>
-        ensures asked { OnOk result (self.new.asked.keys
-            ≡ with_asked self.old.asked.keys (number_found member.now.division path.now)) }
-        ensures question { OnOk result
-            (IsQuestionKept member.now path.now now self.old self.new) }
-        ensures left { OnErr result (self.new.asked.keys ≡ self.old.asked.keys) }
+    /// The unit that the path names was claimed: if it was given back before, it may be handed out.
+    fn claimed(&mut self, member: &Member<'_>, path: &PkgPath)
+        ensures returned { IsReturnedBut self.old
+            (number_found member.now.division path.now) self.new }
+        ensures rest { self.new ≡ record self.old { returned = self.new.returned } }
+    {
+        if let Some(unit) = member.units().find(path) {
+            let _ = self.returned.swap_remove(&unit);
+        }
+    }
+
+    /// The others were asked for the unit that the path names.
+    fn asked_for(&mut self, member: &Member<'_>, path: &PkgPath, now: Instant)
+        ensures question { IsQuestionKept member.now path.now now self.old self.new }
         ensures rest { IsSameButAsked self.old self.new }
     {
         if let Some(unit) = member.units().find(path) {
-            self.asked.insert(unit)?;
             self.last = Some(unit);
+            forget_asked(&mut self.pressing, unit);
         }
-        self.next = position_behind(member, path);
+        self.next = position_after(member, path);
         self.asked_at = now;
-        Ok(())
     }
 
-    /// The build of the unit that the path names failed: it is claimed no more, until its mark is
-    /// taken away. One without a mark gets one.
+    /// The build of the unit that the path names failed. It isn't claimed again until its mark is
+    /// removed. One without a mark gets one.
     fn fail(
         &mut self,
         rt: &HostRuntime,
@@ -111,6 +125,8 @@ impl Desk<'_> {
         ensures failed { OnOk result (self.new.failed.entries
             ≡ with_failed self.old.failed.entries self.old.out.items
             (number_found member.now.division path.now)) }
+        ensures question { OnOk result
+            (IsPressed self.old (number_found member.now.division path.now) self.new) }
         ensures left { OnErr result ((self.new.out.items ≡ self.old.out.items)
             × (self.new.failed.entries ≡ self.old.failed.entries)) }
         ensures rest { IsSameButMoved self.old self.new }
@@ -123,8 +139,11 @@ impl Desk<'_> {
             return Ok(());
         };
         self.failed.reserve(1)?;
+        self.pressing.reserve(1)?;
         self.mark(rt, &self.out[place].name)?;
         let posted = self.out.remove(place);
+        // the question for the unit says to the others that it is built here no more
+        self.pressing.push(posted.unit).unwrap();
         drop(self.failed.insert(posted.unit, posted.name).unwrap());
         Ok(())
     }
@@ -141,9 +160,16 @@ impl Desk<'_> {
     }
 }
 
-/// The position behind that of the package of this path, if there is such a package; else 0.
-fn position_behind(member: &Member<'_>, path: &PkgPath) -> u32
-    ensures { result ≡ behind (position_of member.now.division.tree path.now) }
+/// Keeps the units other than this one, which was asked for.
+fn forget_asked(units: &mut Vec<u32>, asked: u32)
+    ensures { units.new.items ≡ filter (λ u. not (u == asked)) units.old.items }
+{
+    units.retain(|unit| *unit != asked);
+}
+
+/// The position after that of the package with this path, or 0 if there is no such package.
+fn position_after(member: &Member<'_>, path: &PkgPath) -> u32
+    ensures { result ≡ place_after (position_of member.now.division.tree path.now) }
 {
     let tree = member.tree();
     match tree.position(path) {

@@ -10,7 +10,9 @@ use Rattle.node.specs.declared.fault.NodeFault.{NodeFault}
 use Rattle.node.specs.declared.fault.NodeFault.TheVariants as node_fault
 use Rattle.package_record.specs.Content.{Content}
 use Rattle.protocol.specs.State.{Value}
+use Rattle.simulator.specs.declared.event_effects.EventEffects.{EventEffects}
 use Rattle.simulator.specs.declared.tables.Tables.{Tables}
+use Rattle.simulator.specs.Effects.{IsDoneBy}
 use Rattle.simulator.specs.inside.Asking.{asked_by}
 use Rattle.simulator.specs.inside.Deciding.{decision}
 use Rattle.simulator.specs.inside.Tables.{list_in}
@@ -24,24 +26,25 @@ abbrev pub with_decision : List Content → Option Value → List Content
 with_decision list None = list
 with_decision list (Some build) = with_build list build
 
--- The step was taken: the node is changed by it, the messages that it sends are entered, and the
--- build that it decides is appended to the list.
+-- The step was taken: the node is changed by it, the messages that it sends are entered, the build
+-- that it decides is appended to the list, and this is what it does.
 pub record HasFinished (weights : List ℕ) (old : Tables) (n : LoggedNode MemDisk) (r : ReadyStep)
-    (new : Tables) (m : LoggedNode MemDisk) : Type 0 where
+    (new : Tables) (m : LoggedNode MemDisk) (done : EventEffects) : Type 0 where
   pub node : m.node ≡ after n.node (taken_by n.node r)
   pub room : ¬ (LacksRoom n.log (note_in r.step))
   pub sent : new.sent ≡ with_sends old.sent (sends_in r.step)
   pub list : list_in new
       ≡ with_decision (list_in old) (decision weights old.sent n.node.member r.step)
+  pub is_done : IsDoneBy (note_in r.step) (sends_in r.step) done
 
--- The node took the step on what the event asks.
+-- The node took the step on what the event asks, and this is what it does.
 pub record TakesStep (weights : List ℕ) (e : Event) (old : Tables) (n : LoggedNode MemDisk)
-    (new : Tables) (m : LoggedNode MemDisk) : Type 0 where
+    (new : Tables) (m : LoggedNode MemDisk) (done : EventEffects) : Type 0 where
   pub ready : ReadyStep
   pub asked : Asked
   pub asks : asked_by old.sent e ≡ Some asked
   pub takes : Takes n.node asked (Ok (taken_by n.node ready))
-  pub finished : HasFinished weights old n ready new m
+  pub finished : HasFinished weights old n ready new m done
 
 -- The node refuses the step that the event asks for.
 pub record TakesNone (sent : List Text) (e : Event) (n m : LoggedNode MemDisk) (f : NodeFault)

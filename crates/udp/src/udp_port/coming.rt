@@ -42,6 +42,7 @@ impl<C: Clock> UdpPort<'_, C> {
     {
         match self.hurry {
             Hurry::Brief => Patience::none(),
+            Hurry::Steady => Patience::steady(),
             Hurry::Patient => self.patience,
             Hurry::Slow => self.patience.slow(),
         }

@@ -115,7 +115,7 @@ fn refusal(world: &mut World<'_>, event: &Event, out: &mut Text) -> u32 {
 
 fn refused(world: &mut World<'_>, event: &Event) -> u32 {
     match world.step(event) {
-        Ok(()) => 0,
+        Ok(_) => 0,
         Err(fault) => fault.number(),
     }
 }

@@ -1,7 +1,10 @@
 //! Starts of members of one run, in a folder of its own.
 use arrayvec::ArrayVec;
 use faults::Fault;
-use run_file::{LogFound, RunFault, Start, StartFault, found_in, is_blank, judge, read_run, start_on, write_run};
+use run_file::{
+    LogFound, RunFault, Start, StartFault, SupposedEmpty, SystemFolder, found_in, is_blank, judge, read_run, start_on, test_folder,
+    test_folder_mode, write_run,
+};
 use stable_record::{Identity, Log, MemDisk};
 use std::fs;
 use std::test::Fail;
@@ -29,9 +32,14 @@ fn member(me: u8, last: u8) -> Identity {
     }
 }
 
+/// The folder in which each test runs.
+fn here(rt: &HostRuntime) -> SystemFolder<'_, SupposedEmpty> {
+    SystemFolder::at(rt, ".")
+}
+
 /// The refusal of a start of member 1, as its number and place.
 fn refusal(rt: &HostRuntime, last: u8, key: Option<&[u8; 16]>) -> Option<(u32, Option<u64>)> {
-    match start_on(rt, ".", &member(1, last), key, false) {
+    match start_on(rt.alloc(), &here(rt), &member(1, last), key, false) {
         Ok(_) => None,
         Err(fault) => Some((fault.number(), fault.place())),
     }
@@ -40,9 +48,9 @@ fn refusal(rt: &HostRuntime, last: u8, key: Option<&[u8; 16]>) -> Option<(u32, O
 #[test]
 fn starts_on_a_log(rt: HostRuntime) -> Result<(), Fail> {
     let own = member(1, 100);
-    let missed = start_on(&rt, ".", &own, Some(&KEY), true).err();
+    let missed = start_on(rt.alloc(), &here(&rt), &own, Some(&KEY), true).err();
     assert!(rt; missed == Some(StartFault::Run(RunFault::NothingThere)));
-    let Start { disk, unwritten } = start_on(&rt, ".", &own, Some(&KEY), false)?;
+    let Start { disk, unwritten } = start_on(rt.alloc(), &here(&rt), &own, Some(&KEY), false)?;
     assert!(rt; refusal(&rt, 100, Some(&KEY)) == Some((2, None)));
     let opened = Log::open(rt.alloc(), disk, &own);
     assert!(rt; opened.is_ok());
@@ -52,7 +60,7 @@ fn starts_on_a_log(rt: HostRuntime) -> Result<(), Fail> {
     write_run(&rt, ".", 1, text.as_bytes())?;
     let read = read_run(&rt, ".", 1)?.ok_or("no run file")?;
     assert!(rt; read.as_slice() == TEXT.as_bytes());
-    let Start { disk, unwritten } = start_on(&rt, ".", &own, Some(&KEY), true)?;
+    let Start { disk, unwritten } = start_on(rt.alloc(), &here(&rt), &own, Some(&KEY), true)?;
     assert!(rt; unwritten.is_none());
     drop(disk);
     assert!(rt; refusal(&rt, 1, Some(&KEY)) == Some((1006, Some(3))));
@@ -65,6 +73,16 @@ fn starts_on_a_log(rt: HostRuntime) -> Result<(), Fail> {
     fs::remove_file(&rt, "node-1.run")?;
     assert!(rt; refusal(&rt, 100, Some(&KEY)) == Some((1006, Some(0))));
     fs::remove_file(&rt, "node-1.log")?;
+    Ok(())
+}
+
+#[test]
+fn who_may_write(rt: HostRuntime) -> Result<(), Fail> {
+    for (mode, wanted) in [(0o40_755, Ok(())), (0o40_700, Ok(())), (0o40_775, Err(StartFault::Shared)), (0o41_777, Err(StartFault::Shared))] {
+        assert!(rt; test_folder_mode(mode) == wanted);
+    }
+    assert!(rt; test_folder(&rt, ".") == Ok(()));
+    assert!(rt; test_folder(&rt, "nothing") == Err(StartFault::Files));
     Ok(())
 }
 

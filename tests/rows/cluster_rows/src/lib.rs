@@ -8,8 +8,6 @@ mod clusters;
 #[cfg(test)]
 mod down;
 #[cfg(test)]
-mod live;
-#[cfg(test)]
 mod nine;
 #[cfg(test)]
 mod overtaken;

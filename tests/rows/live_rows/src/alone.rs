@@ -12,7 +12,7 @@ use protocol::Packages;
 use stable_record::{Disk, MemDisk};
 use std::alloc::Global;
 use std::test::Fail;
-use turn_rules::{Act, TurnFault, Wish};
+use turn_rules::{Act, Initiative, TurnFault, Wish};
 
 static LISTING: &[u8] = b"a/b.FULLPKGNAME=b-1.0\n";
 
@@ -42,7 +42,7 @@ fn live_letter<D: Disk>(
     made: Option<&Packages>,
     wish: Option<Wish>,
 ) -> u8 {
-    match solo.turn_live(made, wish) {
+    match solo.turn_with(made, Initiative::Scheduled(wish)) {
         Ok(Some(Act::Own(Input::Claim { .. }))) => b'C',
         Ok(Some(Act::Own(Input::Built { .. }))) => b'B',
         Ok(Some(Act::Own(Input::Failed { .. }))) => b'F',

@@ -14,10 +14,10 @@ use std::alloc::Global;
 use std::fs;
 use std::test::Fail;
 use std::time::{Duration, Instant};
-use turn_rules::{Act, Wish};
+use turn_rules::{Act, Initiative, Wish};
 
 /// The second is built on the first.
-static LISTING: &[u8] = b"a/b.FULLPKGNAME=b-1.0\na/c.FULLPKGNAME=c-1.0\na/c.BUILD_DEPENDS=a/b\n";
+pub(crate) static LISTING: &[u8] = b"a/b.FULLPKGNAME=b-1.0\na/c.FULLPKGNAME=c-1.0\na/c.BUILD_DEPENDS=a/b\n";
 
 /// Neither is built on the other.
 pub(crate) static TWO: &[u8] = b"a/b.FULLPKGNAME=b-1.0\na/c.FULLPKGNAME=c-1.0\n";
@@ -39,7 +39,7 @@ pub(crate) fn pace(jobs: u32) -> Pace {
         jobs,
         ask: Duration::from_secs(1),
         takeover: Duration::from_secs(600),
-        slot: Duration::from_millis(0),
+        slot: Duration::from_millis(1),
     }
 }
 
@@ -60,7 +60,7 @@ pub(crate) fn letter(
     };
     let gives_way = solo.is_in_the_way();
     let wish = desk.wish(rt, solo.node().member(), gives_way, now)?;
-    let done = solo.turn_live(made.as_ref(), wish)?;
+    let done = solo.turn_with(made.as_ref(), Initiative::Scheduled(wish))?;
     let Some(act) = done else {
         return Ok(b'.');
     };
@@ -116,14 +116,14 @@ pub(crate) fn name_of_job(rt: &HostRuntime, solo: &Solo<'_, MemDisk, MemPort>) -
 }
 
 #[test]
-fn asks_claims_waits_and_answers(rt: HostRuntime) -> Result<(), Fail> {
+fn claims_waits_and_answers(rt: HostRuntime) -> Result<(), Fail> {
     let alloc = rt.alloc();
     let tree = Tree::parse(alloc, LISTING)?;
     let mut solo = opened(alloc, &tree)?;
     let folder = Folder::open(&rt, "work", 0, false)?;
     let now = Instant::now(&rt)?;
-    let mut desk = Desk::new(alloc, folder, pace(1), now);
-    // it asks for the least unit, claims it, hears itself, and waits for its build
+    let mut desk = Desk::new(alloc, folder, pace(1), false, now);
+    // it claims the first unit, hears itself, and waits for its build
     let before = letters(&rt, &mut solo, &mut desk, now, 6)?;
     let name = name_of_job(&rt, &solo)?;
     if let Some(name) = &name {
@@ -132,9 +132,9 @@ fn asks_claims_waits_and_answers(rt: HostRuntime) -> Result<(), Fail> {
     let after = letters(&rt, &mut solo, &mut desk, now, 8)?;
     let clear = desk.is_clear();
     drop(solo);
-    assert!(rt; before.as_slice() == b"ACDD..".as_slice());
+    assert!(rt; before.as_slice() == b"CDD...".as_slice());
     assert!(rt; name.is_some());
-    assert!(rt; after.as_slice() == b"BDDACDD.".as_slice());
+    assert!(rt; after.as_slice() == b"BDDCDD..".as_slice());
     assert!(rt; !clear);
     Ok(())
 }
@@ -146,13 +146,13 @@ fn what_failed_is_tried_again_when_its_mark_is_gone(rt: HostRuntime) -> Result<(
     let mut solo = opened(alloc, &tree)?;
     let folder = Folder::open(&rt, "work", 0, false)?;
     let now = Instant::now(&rt)?;
-    let mut desk = Desk::new(alloc, folder, pace(1), now);
+    let mut desk = Desk::new(alloc, folder, pace(1), false, now);
     let before = letters(&rt, &mut solo, &mut desk, now, 5)?;
     let name = name_of_job(&rt, &solo)?;
     let Some(name) = name else {
         return Ok(assert!(rt; false));
     };
-    // what is no text of builds is marked as failed, and nothing is claimed any more
+    // what is no text of builds is marked as failed, the others are asked, and nothing is claimed any more
     hand_in(&rt, "work", &name, "{")?;
     let failed = letters(&rt, &mut solo, &mut desk, now, 3)?;
     let is_marked = has_file(&rt, "work/failed", &name)?;
@@ -166,12 +166,12 @@ fn what_failed_is_tried_again_when_its_mark_is_gone(rt: HostRuntime) -> Result<(
     hand_in(&rt, "work", &name, BUILDS)?;
     let built = letters(&rt, &mut solo, &mut desk, now, 4)?;
     drop(solo);
-    assert!(rt; before.as_slice() == b"ACDD.".as_slice());
-    assert!(rt; failed.as_slice() == b"F..".as_slice());
+    assert!(rt; before.as_slice() == b"CDD..".as_slice());
+    assert!(rt; failed.as_slice() == b"FA.".as_slice());
     assert!(rt; is_marked);
     assert!(rt; still.as_slice() == b"..".as_slice());
     assert!(rt; again.as_slice() == b"CDD.".as_slice());
-    assert!(rt; built.as_slice() == b"BDDA".as_slice());
+    assert!(rt; built.as_slice() == b"BDDC".as_slice());
     Ok(())
 }
 
@@ -189,7 +189,7 @@ fn what_makes_no_build_is_marked(rt: HostRuntime) -> Result<(), Fail> {
     for (work, text) in cases {
         let mut solo = opened(alloc, &tree)?;
         let folder = Folder::open(&rt, work, 0, false)?;
-        let mut desk = Desk::new(alloc, folder, pace(1), now);
+        let mut desk = Desk::new(alloc, folder, pace(1), false, now);
         let before = letters(&rt, &mut solo, &mut desk, now, 5)?;
         let Some(name) = name_of_job(&rt, &solo)? else {
             return Ok(assert!(rt; false, "{work}"));
@@ -203,8 +203,8 @@ fn what_makes_no_build_is_marked(rt: HostRuntime) -> Result<(), Fail> {
         let has_more = desk.has_more(solo.node().member());
         let is_clear = desk.is_clear();
         drop(solo);
-        assert!(rt; before.as_slice() == b"ACDD.".as_slice(), "{work}");
-        assert!(rt; failed.as_slice() == b"F..".as_slice(), "{work}");
+        assert!(rt; before.as_slice() == b"CDD..".as_slice(), "{work}");
+        assert!(rt; failed.as_slice() == b"FA.".as_slice(), "{work}");
         assert!(rt; is_marked && !is_done, "{work}");
         assert!(rt; is_clear && !has_more, "{work}");
     }
@@ -218,10 +218,10 @@ fn two_jobs_beside_each_other(rt: HostRuntime) -> Result<(), Fail> {
     let mut solo = opened(alloc, &tree)?;
     let folder = Folder::open(&rt, "work", 0, false)?;
     let now = Instant::now(&rt)?;
-    let mut desk = Desk::new(alloc, folder, pace(2), now);
-    let first = letters(&rt, &mut solo, &mut desk, now, 4)?;
+    let mut desk = Desk::new(alloc, folder, pace(2), false, now);
+    let first = letters(&rt, &mut solo, &mut desk, now, 3)?;
     let one = name_of_job(&rt, &solo)?;
-    // while the first waits the second is asked for, and claimed
+    // while the first waits the second is claimed
     let second = letters(&rt, &mut solo, &mut desk, now, 5)?;
     let other = name_of_job(&rt, &solo)?;
     let (Some(one), Some(other)) = (one, other) else {
@@ -237,8 +237,8 @@ fn two_jobs_beside_each_other(rt: HostRuntime) -> Result<(), Fail> {
     let is_clear = desk.is_clear();
     let counts = solo.counts();
     drop(solo);
-    assert!(rt; first.as_slice() == b"ACDD".as_slice());
-    assert!(rt; second.as_slice() == b"ACDD.".as_slice());
+    assert!(rt; first.as_slice() == b"CDD".as_slice());
+    assert!(rt; second.as_slice() == b"CDD..".as_slice());
     assert!(rt; one.as_str() != other.as_str() && are_posted);
     assert!(rt; rest.as_slice() == b"..".as_slice());
     assert!(rt; built.as_slice() == b"CDDBDD".as_slice());

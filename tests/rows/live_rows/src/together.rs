@@ -1,5 +1,5 @@
 //! Nodes of one cluster, each with its desk, whose builds come in by folders of their own.
-use crate::desks::{BUILDS, TWO, hand_in, letter, name_of_job, pace};
+use crate::desks::{BUILDS, LISTING, TWO, hand_in, letter, name_of_job, pace};
 use ballots::Weights;
 use datagram_ports::{MemPort, Port};
 use engine::Counts;
@@ -10,6 +10,7 @@ use node::Node;
 use scheduler::Desk;
 use stable_record::MemDisk;
 use std::alloc::Global;
+use std::fs;
 use std::test::Fail;
 use std::time::{Duration, Instant};
 
@@ -37,7 +38,7 @@ fn make_host<'a>(
     match Node::open(alloc, disk, tree, &Weights::new(members)?, me) {
         Ok(node) => Ok(Host {
             solo: Solo::new(node, MemPort::new(alloc)),
-            desk: Desk::new(alloc, folder, pace(1), now),
+            desk: Desk::new(alloc, folder, pace(1), false, now),
         }),
         Err((fault, _disk)) => Err(fault)?,
     }
@@ -108,6 +109,8 @@ fn made_for_one_and_not_for_the_other(rt: HostRuntime) -> Result<(), Fail> {
     let mut hosts = Vec::new(alloc);
     hosts.push(make_host(&rt, &tree, &[1, 1], 0, now)?)?;
     hosts.push(make_host(&rt, &tree, &[1, 1], 1, now)?)?;
+    rounds(&rt, &mut hosts, now, 5)?;
+    let now = later(now, 1)?;
     rounds(&rt, &mut hosts, now, 30)?;
     // each has a job, for another unit
     let first = name_of_job(&rt, &hosts[0].solo)?;
@@ -140,16 +143,17 @@ fn a_unit_is_taken_over(rt: HostRuntime) -> Result<(), Fail> {
     let mut hosts = Vec::new(alloc);
     hosts.push(make_host(&rt, &tree, &[1, 1], 0, now)?)?;
     hosts.push(make_host(&rt, &tree, &[1, 1], 1, now)?)?;
-    rounds(&rt, &mut hosts, now, 30)?;
+    rounds(&rt, &mut hosts, now, 5)?;
+    rounds(&rt, &mut hosts, later(now, 1)?, 30)?;
     let is_first = hosts[0].solo.node().member().job().is_some();
     // the other sees that it is away, and leaves it to the first for 600 seconds
-    rounds(&rt, &mut hosts, later(now, 1)?, 10)?;
-    rounds(&rt, &mut hosts, later(now, 600)?, 10)?;
+    rounds(&rt, &mut hosts, later(now, 2)?, 10)?;
+    rounds(&rt, &mut hosts, later(now, 601)?, 10)?;
     let is_left = hosts[1].solo.node().member().job().is_none();
     let has_more = hosts[1].desk.has_more(hosts[1].solo.node().member());
-    rounds(&rt, &mut hosts, later(now, 601)?, 30)?;
+    rounds(&rt, &mut hosts, later(now, 603)?, 30)?;
     let is_over = build(&rt, &hosts, 1)?;
-    rounds(&rt, &mut hosts, later(now, 602)?, 30)?;
+    rounds(&rt, &mut hosts, later(now, 604)?, 30)?;
     let installable = [installable(&hosts[0]), installable(&hosts[1])];
     let clear = [hosts[0].desk.is_clear(), hosts[1].desk.is_clear()];
     drop(hosts);
@@ -168,8 +172,8 @@ fn a_late_node_comes_to_hold_all(rt: HostRuntime) -> Result<(), Fail> {
     let mut hosts = Vec::new(alloc);
     hosts.push(make_host(&rt, &tree, &[1, 1, 1], 0, now)?)?;
     hosts.push(make_host(&rt, &tree, &[1, 1, 1], 1, now)?)?;
-    for _ in 0..4 {
-        rounds(&rt, &mut hosts, now, 30)?;
+    for seconds in 0..6 {
+        rounds(&rt, &mut hosts, later(now, seconds)?, 30)?;
         for me in 0..2 {
             build(&rt, &hosts, me)?;
         }
@@ -177,7 +181,9 @@ fn a_late_node_comes_to_hold_all(rt: HostRuntime) -> Result<(), Fail> {
     let before = [installable(&hosts[0]), installable(&hosts[1])];
     let logs = [hosts[0].solo.node().log_len(), hosts[1].solo.node().log_len()];
     // it asks, and is told; the others note nothing
+    let now = later(now, 7)?;
     hosts.push(make_host(&rt, &tree, &[1, 1, 1], 2, now)?)?;
+    rounds(&rt, &mut hosts, now, 30)?;
     rounds(&rt, &mut hosts, later(now, 1)?, 30)?;
     let after = installable(&hosts[2]);
     let is_silent = logs == [hosts[0].solo.node().log_len(), hosts[1].solo.node().log_len()];
@@ -185,5 +191,109 @@ fn a_late_node_comes_to_hold_all(rt: HostRuntime) -> Result<(), Fail> {
     drop(hosts);
     assert!(rt; before == [2, 2]);
     assert!(rt; after == 2 && is_silent && is_clear);
+    Ok(())
+}
+
+/// How many nodes have a job.
+fn jobs(hosts: &Vec<Host<'_>>) -> usize {
+    let mut count = 0;
+    for host in hosts {
+        if host.solo.node().member().job().is_some() {
+            count += 1;
+        }
+    }
+    count
+}
+
+/// Hands in that the node's build failed, if it has a job.
+fn fail(rt: &HostRuntime, hosts: &Vec<Host<'_>>, me: usize) -> Result<bool, Fail> {
+    match name_of_job(rt, &hosts[me].solo)? {
+        Some(name) => {
+            let digits = name.as_str();
+            let work = WORKS[me];
+            let path = format!(in rt.alloc(); "{work}/failed/{digits}")?;
+            fs::write(rt, path.as_str(), b"on purpose".as_slice())?;
+            Ok(true)
+        }
+        None => Ok(false),
+    }
+}
+
+#[test]
+fn what_failed_is_built_by_another_at_once(rt: HostRuntime) -> Result<(), Fail> {
+    let alloc = rt.alloc();
+    let tree = Tree::parse(alloc, b"a/b.FULLPKGNAME=b-1.0\n")?;
+    let now = Instant::now(&rt)?;
+    let mut hosts = Vec::new(alloc);
+    hosts.push(make_host(&rt, &tree, &[1, 1], 0, now)?)?;
+    hosts.push(make_host(&rt, &tree, &[1, 1], 1, now)?)?;
+    rounds(&rt, &mut hosts, now, 5)?;
+    rounds(&rt, &mut hosts, later(now, 1)?, 30)?;
+    rounds(&rt, &mut hosts, later(now, 2)?, 30)?;
+    let has_failed = fail(&rt, &hosts, 0)?;
+    // the other one learns so by the question of the first, and claims the unit
+    rounds(&rt, &mut hosts, later(now, 3)?, 30)?;
+    let is_built = build(&rt, &hosts, 1)?;
+    rounds(&rt, &mut hosts, later(now, 4)?, 30)?;
+    let installable = [installable(&hosts[0]), installable(&hosts[1])];
+    drop(hosts);
+    assert!(rt; has_failed && is_built);
+    assert!(rt; installable == [1, 1]);
+    Ok(())
+}
+
+#[test]
+fn a_host_that_takes_no_jobs_gives_its_own_back(rt: HostRuntime) -> Result<(), Fail> {
+    let alloc = rt.alloc();
+    let tree = Tree::parse(alloc, b"a/b.FULLPKGNAME=b-1.0\n")?;
+    let now = Instant::now(&rt)?;
+    let mut hosts = Vec::new(alloc);
+    hosts.push(make_host(&rt, &tree, &[1, 1], 0, now)?)?;
+    hosts.push(make_host(&rt, &tree, &[1, 1], 1, now)?)?;
+    rounds(&rt, &mut hosts, now, 5)?;
+    rounds(&rt, &mut hosts, later(now, 1)?, 30)?;
+    rounds(&rt, &mut hosts, later(now, 2)?, 30)?;
+    let is_first = hosts[0].solo.node().member().job().is_some();
+    let host = &mut hosts[0];
+    host.desk.set_holding_off(true);
+    host.desk.give_back(&rt, host.solo.node().member())?;
+    let is_clear = host.desk.is_clear();
+    rounds(&rt, &mut hosts, later(now, 3)?, 30)?;
+    let is_built = build(&rt, &hosts, 1)?;
+    rounds(&rt, &mut hosts, later(now, 4)?, 30)?;
+    let installable = [installable(&hosts[0]), installable(&hosts[1])];
+    drop(hosts);
+    assert!(rt; is_first && is_clear && is_built);
+    assert!(rt; installable == [1, 1]);
+    Ok(())
+}
+
+#[test]
+fn a_late_node_leaves_what_others_build(rt: HostRuntime) -> Result<(), Fail> {
+    let alloc = rt.alloc();
+    let tree = Tree::parse(alloc, LISTING)?;
+    let now = Instant::now(&rt)?;
+    let mut hosts = Vec::new(alloc);
+    hosts.push(make_host(&rt, &tree, &[1, 1, 1], 0, now)?)?;
+    hosts.push(make_host(&rt, &tree, &[1, 1, 1], 1, now)?)?;
+    for seconds in 0..3 {
+        rounds(&rt, &mut hosts, later(now, seconds)?, 30)?;
+    }
+    // the first unit is built, and the second one, which is built on it, claimed
+    let is_built = build(&rt, &hosts, 0)?;
+    for seconds in 3..6 {
+        rounds(&rt, &mut hosts, later(now, seconds)?, 30)?;
+    }
+    let before = jobs(&hosts);
+    hosts.push(make_host(&rt, &tree, &[1, 1, 1], 2, later(now, 6)?)?)?;
+    for seconds in 6..12 {
+        rounds(&rt, &mut hosts, later(now, seconds)?, 30)?;
+    }
+    let after = jobs(&hosts);
+    let is_late_one_free = hosts[2].solo.node().member().job().is_none();
+    let is_held = installable(&hosts[2]) == 1;
+    drop(hosts);
+    assert!(rt; is_built && is_held);
+    assert!(rt; before == 1 && after == 1 && is_late_one_free);
     Ok(())
 }

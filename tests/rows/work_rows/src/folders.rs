@@ -1,7 +1,7 @@
 //! A folder of its own, and each way in which those who write there may end.
 use claims::{Claim, Dep, Deps, Job};
 use faults::Fault;
-use job_folder::{Answer, Folder, LONGEST_ANSWER, Name, WorkFault, job_text, task_text};
+use job_folder::{Answer, Folder, LONGEST_ANSWER, Lock, Name, WorkFault, job_text, task_text};
 use pkgname::PkgName;
 use pkgpath::PkgPath;
 use std::alloc::Global;
@@ -9,6 +9,7 @@ use std::fs::File;
 use std::fs;
 use std::os::unix::fs::symlink;
 use std::test::Fail;
+use std::time::{Duration, SystemTime};
 
 /// The digest of the tree.
 const TREE: [u8; 32] = [0x5a; 32];
@@ -273,5 +274,72 @@ fn of_another_run(rt: HostRuntime) -> Result<(), Fail> {
     fs::write(&rt, "file", "")?;
     let missed = Folder::open(&rt, "file", 0, true).err();
     assert!(rt; missed == Some(WorkFault::Files));
+    Ok(())
+}
+
+/// The folder's lock, which somebody holds or not, and a lock that is no regular file.
+#[test]
+fn who_holds_the_lock(rt: HostRuntime) -> Result<(), Fail> {
+    let folder = Folder::open(&rt, "work", 0, false)?;
+    assert!(rt; folder.lock(&rt)? == Lock::Free);
+    assert!(rt; folder.touched_at(&rt)?.is_none());
+    let lock = File::create(&rt, "work/lock")?;
+    assert!(rt; folder.lock(&rt)? == Lock::Free);
+    lock.try_lock()?;
+    assert!(rt; folder.lock(&rt)? == Lock::Held);
+    lock.unlock()?;
+    assert!(rt; folder.lock(&rt)? == Lock::Free);
+    let before = folder.touched_at(&rt)?;
+    lock.set_modified(a_while_ago(&rt)?)?;
+    assert!(rt; before.is_some() && folder.touched_at(&rt)? != before);
+    fs::remove_file(&rt, "work/lock")?;
+    fs::create_dir(&rt, "work/lock")?;
+    assert!(rt; folder.lock(&rt)? == Lock::Unknown);
+    Ok(())
+}
+
+fn a_while_ago(rt: &HostRuntime) -> Result<SystemTime, Fail> {
+    let now = SystemTime::now(rt)?;
+    Ok(now.checked_sub(Duration::from_secs(100)).ok_or("no such time")?)
+}
+
+/// A job has begun as long as its file is there, if somebody attends to the folder; else as long as
+/// the file is locked.
+#[test]
+fn what_has_begun(rt: HostRuntime) -> Result<(), Fail> {
+    let folder = Folder::open(&rt, "work", 0, false)?;
+    let name = folder.post(&rt, &TREE, &job(rt.alloc(), 0x3c, 3)?)?;
+    assert!(rt; !folder.has_begun(&rt, &name)?);
+    fs::create_dir(&rt, "work/begun")?;
+    let path = format!(in rt.alloc(); "work/begun/{NAME}")?;
+    let begun = File::create(&rt, path.as_str())?;
+    assert!(rt; !folder.has_begun(&rt, &name)?);
+    begun.try_lock()?;
+    assert!(rt; folder.has_begun(&rt, &name)?);
+    begun.unlock()?;
+    assert!(rt; !folder.has_begun(&rt, &name)?);
+    let lock = File::create(&rt, "work/lock")?;
+    assert!(rt; folder.has_begun(&rt, &name)?);
+    lock.set_modified(a_while_ago(&rt)?)?;
+    assert!(rt; !folder.has_begun(&rt, &name)?);
+    lock.try_lock()?;
+    assert!(rt; folder.has_begun(&rt, &name)?);
+    folder.withdraw(&rt, &name)?;
+    assert!(rt; !folder.is_posted(&rt, &name)? && !folder.has_begun(&rt, &name)?);
+    folder.withdraw(&rt, &name)?;
+    Ok(())
+}
+
+/// A host is away while either file is there, whatever it has.
+#[test]
+fn what_takes_no_jobs(rt: HostRuntime) -> Result<(), Fail> {
+    let folder = Folder::open(&rt, "work", 0, false)?;
+    assert!(rt; !folder.is_away(&rt)?);
+    for path in ["work/away", "work/stop"] {
+        fs::write(&rt, path, "no power\n")?;
+        assert!(rt; folder.is_away(&rt)?);
+        fs::remove_file(&rt, path)?;
+        assert!(rt; !folder.is_away(&rt)?);
+    }
     Ok(())
 }

@@ -5,7 +5,6 @@ use Rattle.cluster_turns.proofs.ByCase.{goes_on}
 use Rattle.cluster_turns.proofs.Asking.{in_calls}
 use Rattle.cluster_turns.proofs.Choosings.{arrival_denied, arrival_taken, job_answered, job_wants, own_denied, own_taken}
 use Rattle.cluster_turns.specs.Choosing.{NoneIsForeign}
-use Rattle.cluster_turns.specs.Handed.{AllBuilds}
 use Rattle.cluster_turns.specs.inside.Cases.{arrived}
 use Rattle.cluster_turns.proofs.chosen.choose.Goals as goal
 
@@ -14,13 +13,13 @@ returns-in_err-chosen-clause-refused g c =
     let p = err_from_is_err_and c.from_residual.result c.from_residual.ensures.1 in
     let given = g.P.Port.given c.args.port.now in
     rw (p.1, p.2) (job_wants c.args.nodes.now.items c.args.sent.now c.args.pending.now
-    (AllBuilds c.args.builds.now) given given (goes_on given) c.in_err-chosen.field-0.0
+    c.args.builds.now given given (goes_on given) c.in_err-chosen.field-0.0
     c.in_err-chosen.ensures.refused)
 
 pub returns-in-Some-clause-chosen : goal.returns-in-Some-clause-chosen
 returns-in-Some-clause-chosen g c =
     let given = g.P.Port.given c.args.port.now in
-    job_answered c.args.nodes.now.items c.args.sent.now c.args.pending.now (AllBuilds c.args.builds.now)
+    job_answered c.args.nodes.now.items c.args.sent.now c.args.pending.now c.args.builds.now
     given given (goes_on given) c.answered.new.nodes.items c.answered.ensures.same
     c.in_ok-chosen.field-0 c.in-Some.chosen c.in-Some.is c.in_ok-chosen.ensures.chosen
 
@@ -35,7 +34,7 @@ returns-in_err-chosen-2-clause-refused g c =
     let p = err_from_is_err_and c.from_residual-in_err-chosen-2.result
     c.from_residual-in_err-chosen-2.ensures.1 in
     rw (p.1, p.2) (arrival_denied c.args.nodes.now.items c.args.sent.now c.args.pending.now
-    (AllBuilds c.args.builds.now) (g.P.Port.given c.args.port.now) (g.P.Port.given c.received-came.new.port)
+    c.args.builds.now (g.P.Port.given c.args.port.now) (g.P.Port.given c.received-came.new.port)
     c.answered.new.nodes.items c.answered.ensures.same c.in_ok-chosen.field-0 c.in_default.is
     c.in_ok-chosen.ensures.chosen (arrived c.received-came.result)
     c.received-came.ensures.given c.in_err-chosen-2.field-0.0
@@ -44,7 +43,7 @@ returns-in_err-chosen-2-clause-refused g c =
 pub returns-in-Some-2-clause-chosen : goal.returns-in-Some-2-clause-chosen
 returns-in-Some-2-clause-chosen g c =
     arrival_taken c.args.nodes.now.items c.args.sent.now c.args.pending.now
-    (AllBuilds c.args.builds.now) (g.P.Port.given c.args.port.now) (g.P.Port.given c.received-came.new.port)
+    c.args.builds.now (g.P.Port.given c.args.port.now) (g.P.Port.given c.received-came.new.port)
     c.answered.new.nodes.items c.answered.ensures.same c.in_ok-chosen.field-0 c.in_default.is
     c.in_ok-chosen.ensures.chosen (arrived c.received-came.result)
     c.received-came.ensures.given c.taken_in.new.nodes.items c.taken_in.ensures.same
@@ -55,7 +54,7 @@ pub returns-clause-chosen : goal.returns-clause-chosen
 returns-clause-chosen g c =
     IfOk-weaker c.own_in_turn.result _ _
     (own_taken c.args.nodes.now.items c.args.sent.now c.args.pending.now
-    (AllBuilds c.args.builds.now) (g.P.Port.given c.args.port.now) (g.P.Port.given c.received-came.new.port)
+    c.args.builds.now (g.P.Port.given c.args.port.now) (g.P.Port.given c.received-came.new.port)
     c.answered.new.nodes.items c.answered.ensures.same c.in_ok-chosen.field-0 c.in_default.is
     c.in_ok-chosen.ensures.chosen (arrived c.received-came.result)
     c.received-came.ensures.given c.taken_in.new.nodes.items c.taken_in.ensures.same
@@ -66,7 +65,7 @@ pub returns-clause-refused : goal.returns-clause-refused
 returns-clause-refused g c =
     IfErr-weaker c.own_in_turn.result _ _
     (own_denied c.args.nodes.now.items c.args.sent.now c.args.pending.now
-    (AllBuilds c.args.builds.now) (g.P.Port.given c.args.port.now) (g.P.Port.given c.received-came.new.port)
+    c.args.builds.now (g.P.Port.given c.args.port.now) (g.P.Port.given c.received-came.new.port)
     c.answered.new.nodes.items c.answered.ensures.same c.in_ok-chosen.field-0 c.in_default.is
     c.in_ok-chosen.ensures.chosen (arrived c.received-came.result)
     c.received-came.ensures.given c.taken_in.new.nodes.items c.taken_in.ensures.same
@@ -82,7 +81,7 @@ returns-in_err-chosen-clause-calls_refused g c =
       received = [];
       went = refl;
       so = job_wants c.args.nodes.now.items c.args.sent.now c.args.pending.now
-          (AllBuilds c.args.builds.now) (Some []) (Some []) refl c.in_err-chosen.field-0.0
+          c.args.builds.now (Some []) (Some []) refl c.in_err-chosen.field-0.0
           c.in_err-chosen.ensures.refused;
     })
 
@@ -91,7 +90,7 @@ returns-in-Some-clause-calls g c = record {
   received = [];
   went = refl;
   so = job_answered c.args.nodes.now.items c.args.sent.now c.args.pending.now
-      (AllBuilds c.args.builds.now) (Some []) (Some []) refl c.answered.new.nodes.items
+      c.args.builds.now (Some []) (Some []) refl c.answered.new.nodes.items
       c.answered.ensures.same c.in_ok-chosen.field-0 c.in-Some.chosen c.in-Some.is
       c.in_ok-chosen.ensures.chosen;
 }
@@ -106,7 +105,7 @@ returns-in_err-chosen-2-clause-calls_refused g c =
       received = r.0 ∷ [];
       went = r.2;
       so = arrival_denied c.args.nodes.now.items c.args.sent.now c.args.pending.now
-          (AllBuilds c.args.builds.now) (Some []) (Some (came_by r.0 ∷ [])) c.answered.new.nodes.items
+          c.args.builds.now (Some []) (Some (came_by r.0 ∷ [])) c.answered.new.nodes.items
           c.answered.ensures.same c.in_ok-chosen.field-0 c.in_default.is
           c.in_ok-chosen.ensures.chosen came (in_calls came r.0 r.1)
           c.in_err-chosen-2.field-0.0 c.in_err-chosen-2.ensures.refused;
@@ -120,7 +119,7 @@ returns-in-Some-2-clause-calls g c =
       received = r.0 ∷ [];
       went = r.2;
       so = arrival_taken c.args.nodes.now.items c.args.sent.now c.args.pending.now
-          (AllBuilds c.args.builds.now) (Some []) (Some (came_by r.0 ∷ [])) c.answered.new.nodes.items
+          c.args.builds.now (Some []) (Some (came_by r.0 ∷ [])) c.answered.new.nodes.items
           c.answered.ensures.same c.in_ok-chosen.field-0 c.in_default.is
           c.in_ok-chosen.ensures.chosen came (in_calls came r.0 r.1) c.taken_in.new.nodes.items
           c.taken_in.ensures.same c.in_ok-chosen-2.field-0 c.in_ok-chosen-2.ensures.chosen
@@ -136,7 +135,7 @@ returns-clause-calls g c =
       received = r.0 ∷ [];
       went = r.2;
       so = own_taken c.args.nodes.now.items c.args.sent.now c.args.pending.now
-          (AllBuilds c.args.builds.now) (Some []) (Some (came_by r.0 ∷ [])) c.answered.new.nodes.items
+          c.args.builds.now (Some []) (Some (came_by r.0 ∷ [])) c.answered.new.nodes.items
           c.answered.ensures.same c.in_ok-chosen.field-0 c.in_default.is
           c.in_ok-chosen.ensures.chosen came (in_calls came r.0 r.1) c.taken_in.new.nodes.items
           c.taken_in.ensures.same c.in_ok-chosen-2.field-0 c.in_ok-chosen-2.ensures.chosen
@@ -152,7 +151,7 @@ returns-clause-calls_refused g c =
       received = r.0 ∷ [];
       went = r.2;
       so = own_denied c.args.nodes.now.items c.args.sent.now c.args.pending.now
-          (AllBuilds c.args.builds.now) (Some []) (Some (came_by r.0 ∷ [])) c.answered.new.nodes.items
+          c.args.builds.now (Some []) (Some (came_by r.0 ∷ [])) c.answered.new.nodes.items
           c.answered.ensures.same c.in_ok-chosen.field-0 c.in_default.is
           c.in_ok-chosen.ensures.chosen came (in_calls came r.0 r.1) c.taken_in.new.nodes.items
           c.taken_in.ensures.same c.in_ok-chosen-2.field-0 c.in_ok-chosen-2.ensures.chosen

@@ -1,6 +1,6 @@
 use Rattle.std.proofs.Common.{◌≡◌, ◌≤◌, ◌-◌, ◌⊎◌, None, length}
 use Rattle.std.specs.List.{range_with_len}
-use Rattle.turn_rules.specs.Choice.{IsFirstOwn}
+use Rattle.cluster_turns.specs.Choice.{IsFirstOwn}
 use Rattle.cluster_turns.specs.Here.{here_in}
 use Rattle.cluster_turns.specs.Unfailed.{EachFailedBelow}
 use Rattle.cluster_turns.proofs.chosen.own_among.Given as goal

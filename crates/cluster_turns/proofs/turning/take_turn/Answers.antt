@@ -1,7 +1,6 @@
 use Rattle.std.proofs.Common.{[], None, Some, inl, map, refl, subst, sym}
 use Rattle.std.proofs.lemmas.Result.{err_from_is_err_and}
 use Rattle.cluster_turns.specs.Choosing.{HasChosen}
-use Rattle.cluster_turns.specs.Handed.{AllBuilds}
 use Rattle.cluster_turns.specs.Unfailed.{EachFailedBelow}
 use Rattle.turn_rules.specs.Calls.{came_by, given_in, no_calls, offered_in}
 use Rattle.turn_rules.specs.Offered.{sends_of}
@@ -14,15 +13,15 @@ use Rattle.cluster_turns.proofs.turning.take_turn.Goals as goal
 pub take-requires-clause-readied : goal.take-requires-clause-readied
 take-requires-clause-readied g c =
     let made = subst (HasChosen c.choose.new.nodes.items c.args.sent.now c.args.pending.now
-    (AllBuilds c.args.builds.now) (g.P.Port.given c.args.port.now) (g.P.Port.given c.choose.new.port))
+    c.args.builds.now (g.P.Port.given c.args.port.now) (g.P.Port.given c.choose.new.port))
     c.in-Some.is c.in_ok-chosen.ensures.chosen in
-    ready_as c.choose.new.nodes.items c.args.sent.now c.args.pending.now (AllBuilds c.args.builds.now)
+    ready_as c.choose.new.nodes.items c.args.sent.now c.args.pending.now c.args.builds.now
     (g.P.Port.given c.args.port.now) (g.P.Port.given c.choose.new.port) c.in-Some.chosen made
 
 pub returns-in_err-event-in-Some-clause-turn : goal.returns-in_err-event-in-Some-clause-turn
 returns-in_err-event-in-Some-clause-turn g c =
     let made = subst (HasChosen c.choose.new.nodes.items c.args.sent.now c.args.pending.now
-    (AllBuilds c.args.builds.now) (g.P.Port.given c.args.port.now) (g.P.Port.given c.choose.new.port))
+    c.args.builds.now (g.P.Port.given c.args.port.now) (g.P.Port.given c.choose.new.port))
     c.in-Some.is c.in_ok-chosen.ensures.chosen in
     let p = err_from_is_err_and c.from_residual-in_err-event-in-Some.result
     c.from_residual-in_err-event-in-Some.ensures.1 in
@@ -42,14 +41,14 @@ returns-in_err-event-in-Some-clause-turn g c =
       pending = c.take.new.pending;
       port = c.take.new.port;
     })
-    c.args.port.now c.choose.ensures.offered c.in-Some.chosen (AllBuilds c.args.builds.now)
+    c.args.port.now c.choose.ensures.offered c.in-Some.chosen c.args.builds.now
     c.args.nodes.now.items c.choose.ensures.same made c.take.ensures.given
     c.in_err-event-in-Some.field-0.0 c.in_err-event-in-Some.ensures.taken)
 
 pub returns-in_ok-event-in-Some-clause-turn : goal.returns-in_ok-event-in-Some-clause-turn
 returns-in_ok-event-in-Some-clause-turn g c =
     let made = subst (HasChosen c.choose.new.nodes.items c.args.sent.now c.args.pending.now
-    (AllBuilds c.args.builds.now) (g.P.Port.given c.args.port.now) (g.P.Port.given c.choose.new.port))
+    c.args.builds.now (g.P.Port.given c.args.port.now) (g.P.Port.given c.choose.new.port))
     c.in-Some.is c.in_ok-chosen.ensures.chosen in
     turned g.D.Disk.is_kept g.D.Disk.history g.D.Disk.failures_of g.P.Port.given
     g.P.Port.offered (record {
@@ -66,7 +65,7 @@ returns-in_ok-event-in-Some-clause-turn g c =
       pending = c.take.new.pending;
       port = c.take.new.port;
     })
-    c.args.port.now c.choose.ensures.offered c.in-Some.chosen (AllBuilds c.args.builds.now)
+    c.args.port.now c.choose.ensures.offered c.in-Some.chosen c.args.builds.now
     c.args.nodes.now.items c.choose.ensures.same made c.take.ensures.given
     c.in_ok-event-in-Some.event c.in_ok-event-in-Some.ensures.taken
 
@@ -76,7 +75,7 @@ pub returns-in_err-event-in-Some-clause-calls : goal.returns-in_err-event-in-Som
 returns-in_err-event-in-Some-clause-calls g c =
     let asked = c.in_ok-chosen.ensures.calls in
     let made = subst (HasChosen c.choose.new.nodes.items c.args.sent.now c.args.pending.now
-    (AllBuilds c.args.builds.now) (Some []) (Some (map came_by asked.received))) c.in-Some.is asked.so in
+    c.args.builds.now (Some []) (Some (map came_by asked.received))) c.in-Some.is asked.so in
     let p = err_from_is_err_and c.from_residual-in_err-event-in-Some.result
     c.from_residual-in_err-event-in-Some.ensures.1 in
     let offered = c.in_err-event-in-Some.ensures.calls in
@@ -99,7 +98,7 @@ returns-in_err-event-in-Some-clause-calls g c =
             pending = c.take.new.pending;
             port = record { received = asked.received; offered = offered.offered };
           })
-          no_calls refl c.in-Some.chosen (AllBuilds c.args.builds.now)
+          no_calls refl c.in-Some.chosen c.args.builds.now
           c.args.nodes.now.items c.choose.ensures.same made
           (goes_on (Some (map came_by asked.received)))
           c.in_err-event-in-Some.field-0.0 (offered.so asked.received);
@@ -109,7 +108,7 @@ pub returns-in_ok-event-in-Some-clause-calls : goal.returns-in_ok-event-in-Some-
 returns-in_ok-event-in-Some-clause-calls g c =
     let asked = c.in_ok-chosen.ensures.calls in
     let made = subst (HasChosen c.choose.new.nodes.items c.args.sent.now c.args.pending.now
-    (AllBuilds c.args.builds.now) (Some []) (Some (map came_by asked.received))) c.in-Some.is asked.so in
+    c.args.builds.now (Some []) (Some (map came_by asked.received))) c.in-Some.is asked.so in
     let offered = c.in_ok-event-in-Some.ensures.calls in
     record {
       calls = record { received = asked.received; offered = offered.offered };
@@ -130,7 +129,7 @@ returns-in_ok-event-in-Some-clause-calls g c =
             pending = c.take.new.pending;
             port = record { received = asked.received; offered = offered.offered };
           })
-          no_calls refl c.in-Some.chosen (AllBuilds c.args.builds.now)
+          no_calls refl c.in-Some.chosen c.args.builds.now
           c.args.nodes.now.items c.choose.ensures.same made
           (goes_on (Some (map came_by asked.received)))
           c.in_ok-event-in-Some.event (offered.so asked.received);
@@ -160,13 +159,13 @@ pub returns-in-None-clause-calls : goal.returns-in-None-clause-calls
 returns-in-None-clause-calls g c =
     let asked = c.in_ok-chosen.ensures.calls in
     let made = subst (HasChosen c.choose.new.nodes.items c.args.sent.now c.args.pending.now
-    (AllBuilds c.args.builds.now) (Some []) (Some (map came_by asked.received))) c.in-None.is asked.so in
+    c.args.builds.now (Some []) (Some (map came_by asked.received))) c.in-None.is asked.so in
     record {
       calls = record { received = asked.received; offered = [] };
       went = receives_alone g.P.Port.does c.args.port.now c.choose.new.port asked.received
           asked.went;
       so = (
-        subst (λ ns. HasChosen ns c.args.sent.now c.args.pending.now (AllBuilds c.args.builds.now) (Some [])
+        subst (λ ns. HasChosen ns c.args.sent.now c.args.pending.now c.args.builds.now (Some [])
             (Some (map came_by asked.received)) None) c.choose.ensures.same made,
         record {
           nodes = inl c.choose.ensures.same;

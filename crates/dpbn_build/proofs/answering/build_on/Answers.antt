@@ -1,7 +1,6 @@
-use Rattle.std.proofs.Common.{inl, inr, subst, ⊎_elim}
+use Rattle.std.proofs.Common.{inl, inr, ⊎_elim}
 use Rattle.std.proofs.lemmas.Result.{IfOk-weaker, IfErr-weaker, err_from_is_err_and}
-use Rattle.dpbn_build.proofs.Logs.{start_refusal}
-use Rattle.dpbn_build.specs.Build.{LacksNotes}
+use Rattle.dpbn_build.proofs.Logs.{start_refusal, still_started}
 use Rattle.dpbn_build.proofs.answering.build_on.Goals as goal
 
 pub returns-in_err-is_noted-clause-refused : goal.returns-in_err-is_noted-clause-refused
@@ -15,18 +14,9 @@ pub returns-in_err-office-clause-refused : goal.returns-in_err-office-clause-ref
 returns-in_err-office-clause-refused g c =
     let p = err_from_is_err_and c.from_residual-in_err-office.result
     c.from_residual-in_err-office.ensures.1 in
-    let begun = c.in_ok-begun.begun in
-    let has = c.in_ok-begun.ensures.begun in
-    rw (p.1, p.2) (⊎_elim (λ system. inl (inl system)) (λ work. inr (
-      record {
-        start = record { disk = c.has_notes.new.disk; unwritten = begun.start.unwritten };
-        port = begun.port;
-      },
-      record { started = has.started; seated = has.seated; guarded = has.guarded },
-      subst (λ i. LacksNotes i c.has_notes.new.disk) c.identity_of.ensures
-          (c.in_ok-is_noted.ensures.lacks work.0),
-      work.1,
-    )) c.in_err-office.ensures)
+    rw (p.1, p.2) (⊎_elim
+    (λ own. ⊎_elim (λ system. inl (inl system)) (λ shared. inr (inr shared)) own)
+    (λ work. inr (inl work.1)) c.in_err-office.ensures)
 
 pub returns-clause-built : goal.returns-clause-built
 returns-clause-built g c =
@@ -40,7 +30,12 @@ returns-clause-built g c =
           start = record { disk = c.has_notes.new.disk; unwritten = begun.start.unwritten };
           port = begun.port;
         };
-        has_begun = record { started = has.started; seated = has.seated; guarded = has.guarded };
+        has_begun = record {
+          started = still_started _ _ _ _ _ begun.start.disk c.has_notes.new.disk _
+              c.in_ok-is_noted.ensures.kept c.in_ok-is_noted.ensures.same has.started;
+          seated = has.seated;
+          guarded = has.guarded;
+        };
         opened = built;
       },
     )) c.build_on_log.ensures.built

@@ -7,9 +7,9 @@ use Rattle.dpbn_build.proofs.turning.run.Goals as goal
 pub returns : goal.returns
 returns g c =
     let seen = c.port-2.ensures.value in
-    record {
-      last = c.take_turns.new.solo;
-      turned = c.take_turns.ensures;
+    λ ended. record {
+      last = c.take_turns-is_ended.new.solo;
+      turned = c.take_turns-is_ended.ensures ended;
       flushed = record {
         same = refl;
         setup = rw seen (c.flush.ensures.setup

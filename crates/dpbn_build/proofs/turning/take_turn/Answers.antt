@@ -5,12 +5,12 @@ pub returns : goal.returns
 returns g c =
     let seen = c.port-3.ensures.value in
     let turned = rw (c.port-2.ensures.value, c.set_hurry.ensures, c.port.ensures.value)
-    at c.turn_live-answer.ensures in (
+    at c.turn_with-answer.ensures in (
       record {
         hurry = c.hand_in-made.result.hurry;
         made = option_map (λ b. b.now) c.as_ref.result;
         wish = c.hand_in-made.result.wish;
-        answer = c.turn_live-answer.result;
+        answer = c.turn_with-answer.result;
       },
       rw seen turned,
     )

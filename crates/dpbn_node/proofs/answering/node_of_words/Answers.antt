@@ -1,4 +1,5 @@
 use Rattle.std.proofs.Common.{inr}
+use Rattle.dpbn_node.specs.Keys.{AnyKeyFile}
 use Rattle.dpbn_node.specs.Node.{IsTold}
 use Rattle.dpbn_node.specs.Runs.{run_at}
 use Rattle.dpbn_node.proofs.answering.node_of_words.Goals as goal
@@ -7,7 +8,7 @@ pub returns-clause-refused : goal.returns-clause-refused
 returns-clause-refused g c =
     let place = c.in_ok-place.place in
     let of = run_at c.in_ok-tree.tree c.in_ok-given.given.weights place in
-    let is_of : IsTold c.args.files.now c.args.peers.now c.args.run.now of = record {
+    let is_of : IsTold AnyKeyFile c.args.files.now c.args.peers.now c.args.run.now of = record {
       described = c.in_ok-tree.ensures.ok;
       told = c.in_ok-given.ensures.weights;
       listen = c.in_ok-place.ensures.listen;

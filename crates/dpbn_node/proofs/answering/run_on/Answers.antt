@@ -1,18 +1,22 @@
-use Rattle.std.proofs.Common.{inl, inr, ⊎_elim}
-use Rattle.std.proofs.lemmas.Result.{IfOk-weaker, IfErr-weaker}
+use Rattle.std.proofs.Common.{inl, inr, ⊎_elim, subst, string_bytes}
+use Rattle.std.proofs.lemmas.Result.{err_from_is_err_and}
 use Rattle.dpbn_node.proofs.answering.run_on.Goals as goal
 
-pub returns-clause-shown : goal.returns-clause-shown
-returns-clause-shown g c =
-    IfOk-weaker c.node_on_log.result _ _
-    (λ text shown. record {
+pub returns-in_err-solo-clause-refused : goal.returns-in_err-solo-clause-refused
+returns-in_err-solo-clause-refused g c =
+    let p = err_from_is_err_and c.from_residual-in_err-solo.result
+    c.from_residual-in_err-solo.ensures.1 in
+    rw (p.1, p.2) (⊎_elim (λ system. inl system) (λ log. inr (inr (inr (inr log))))
+    c.in_err-solo.ensures.refused)
+
+pub returns-in-Ok-clause-shown : goal.returns-in-Ok-clause-shown
+returns-in-Ok-clause-shown g c =
+    record {
       begun = c.in_ok-begun.begun;
       has_begun = c.in_ok-begun.ensures.begun;
-      opened = shown;
-    }) c.node_on_log.ensures.shown
-
-pub returns-clause-refused : goal.returns-clause-refused
-returns-clause-refused g c =
-    IfErr-weaker c.node_on_log.result _ _
-    (λ r why. ⊎_elim (λ system. inl system) (λ log. inr (inr (inr (inr log)))) why)
-    c.node_on_log.ensures.refused
+      opened = record {
+        before = c.in_ok-solo.solo;
+        opened = c.in_ok-solo.ensures.opened;
+        is = c.in-Ok.ensures;
+      };
+    }

@@ -5,7 +5,9 @@ returns-in-Ok-clause-opened c =
     let said = c.in-Ok.ensures in
     record {
       opened = said.node;
+      kept = said.kept;
       notes = said.notes;
       on_log = said.on_log;
       any_moment = said.any_moment;
+      one_answer = said.one_answer;
     }

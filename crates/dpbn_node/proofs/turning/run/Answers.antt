@@ -8,8 +8,8 @@ pub returns : goal.returns
 returns g c =
     let seen = c.port-2.ensures.value in
     record {
-      last = c.take_turns.new.solo;
-      turned = c.take_turns.ensures;
+      last = c.take_turns-taken.new.solo;
+      turned = c.take_turns-taken.ensures;
       flushed = record {
         same = refl;
         setup = rw seen (c.flush.ensures.setup

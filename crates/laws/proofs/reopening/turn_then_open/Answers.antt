@@ -1,5 +1,6 @@
 use Rattle.std.proofs.Common.{subst}
-use Rattle.lone_node.specs.Handed.{AllBuilds}
+use Rattle.std.specs.Prelude.{option_map}
+use Rattle.lone_node.specs.Handed.{handed}
 use Rattle.laws.proofs.Reopened.{opened_again}
 use Rattle.node.specs.OnLog.{IsLogged}
 use Rattle.stable_record.specs.History.{seen}
@@ -7,13 +8,14 @@ use Rattle.laws.proofs.reopening.turn_then_open.Goals as goal
 
 pub returns-in-Ok-clause-left : goal.returns-in-Ok-clause-left
 returns-in-Ok-clause-left g c = λ kept kept_then on gone.
+    let passed = handed (option_map (λ b. b.now) c.args.made) c.args.initiative in
     let old = c.args.solo.now in
-    let new = c.turn-answer.new.self in
-    let e = c.turn-answer.ensures in
+    let new = c.turn_with-answer.new.self in
+    let e = c.turn_with-answer.ensures in
     opened_again g.D.Disk.is_kept g.D.Disk.history g.P.Port.given g.P.Port.offered
     g.P.Port.does g.P.Port.vouches
-    (AllBuilds c.args.builds.now) old new (subst IsLogged c.node.ensures c.member-node.ensures.node)
-    on kept_then c.turn-answer.result e.done.taken e.log.any_moment
+    passed old new (subst IsLogged c.node.ensures c.member-node.ensures.node)
+    on kept_then c.turn_with-answer.result e.done.taken e.log.any_moment
     e.refuses.refused e.log.untouched c.args.tree.now c.args.weights.now c.args.me c.requires.own
     c.in-Ok.ensures.one_answer (seen (g.E.Disk.history c.args.left)) gone c.in-Ok.node.node
     c.in-Ok.ensures.node (c.in-Ok.ensures.notes kept)

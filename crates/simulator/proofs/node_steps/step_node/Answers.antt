@@ -18,7 +18,8 @@ pub returns-in-Ok-clause-taken : goal.returns-in-Ok-clause-taken
 returns-in-Ok-clause-taken c =
     takes_step c.args.weights.now (event_view c.args.event.now) c.args.tables.now
     c.finish_step.new.tables c.args.node.now c.prepare_step.new.node c.finish_step.new.node
-    c.in_ok-ready.ready c.in_ok-ready.ensures.step c.in_ok-ready.ensures.log c.in-Ok.ensures.taken
+    c.in_ok-ready.ready c.in-Ok.done c.in_ok-ready.ensures.step c.in_ok-ready.ensures.log
+    c.in-Ok.ensures.taken
 
 pub returns-in-Err-clause-refused : goal.returns-in-Err-clause-refused
 returns-in-Err-clause-refused c =

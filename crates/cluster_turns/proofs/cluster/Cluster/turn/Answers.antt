@@ -1,12 +1,11 @@
 use Rattle.std.proofs.Common.{refl, subst, ◌∙◌}
-use Rattle.cluster_turns.specs.Handed.{AllBuilds}
 use Rattle.cluster_turns.proofs.AfterTurn.{StandsThen, stands_then}
 use Rattle.cluster_turns.proofs.AnyCase.{listed_in_any}
 use Rattle.cluster_turns.proofs.ByCalls.{has_called}
 use Rattle.cluster_turns.proofs.Led.{one_list, safe}
 use Rattle.cluster_turns.proofs.Refusing.{none_foreign}
 use Rattle.cluster_turns.proofs.Turns.{Promises, promises}
-use Rattle.cluster_turns.specs.Calls.{HasCalledFor}
+use Rattle.cluster_turns.specs.Calls.{HasCalled}
 use Rattle.cluster_turns.specs.State.{ClusterState}
 use Rattle.cluster_turns.specs.Turn.{WereKept}
 use Rattle.cluster_turns.specs.inside.Standing.{cluster_of}
@@ -33,13 +32,13 @@ cluster_then g c = record {
 -- what the turn promises
 promised : (g : Over) (c : goal.After-take_turn g)
     → Promises g.D.Disk.is_kept g.D.Disk.history g.D.Disk.failures_of g.P.Port.given
-    g.P.Port.offered c.args.self.now (cluster_then g c) (AllBuilds c.args.builds.now) c.take_turn.result
+    g.P.Port.offered c.args.self.now (cluster_then g c) c.args.builds.now c.take_turn.result
 promised g c =
     let i = c.self.invariant.0 in
     subst (λ old. Promises g.D.Disk.is_kept g.D.Disk.history g.D.Disk.failures_of g.P.Port.given
-    g.P.Port.offered old (cluster_then g c) (AllBuilds c.args.builds.now) c.take_turn.result) c.self.view_is
+    g.P.Port.offered old (cluster_then g c) c.args.builds.now c.take_turn.result) c.self.view_is
     (promises g.D.Disk.is_kept g.D.Disk.history g.D.Disk.failures_of g.P.Port.given
-    g.P.Port.offered (cluster_of c.self.inside) (cluster_then g c) (AllBuilds c.args.builds.now) refl refl
+    g.P.Port.offered (cluster_of c.self.inside) (cluster_then g c) c.args.builds.now refl refl
     i.count i.world i.is_world c.self.invariant.1 c.take_turn.result c.take_turn.ensures.turn)
 
 -- and what holds after it
@@ -48,7 +47,7 @@ standing : (g : Over) (c : goal.After-take_turn g)
 standing g c =
     let i = c.self.invariant.0 in
     stands_then g.D.Disk.is_kept g.D.Disk.history g.D.Disk.failures_of g.P.Port.given
-    g.P.Port.offered (cluster_of c.self.inside) (cluster_then g c) (AllBuilds c.args.builds.now) refl refl
+    g.P.Port.offered (cluster_of c.self.inside) (cluster_then g c) c.args.builds.now refl refl
     i.count i.world i.is_world c.self.invariant.1 c.take_turn.result c.take_turn.ensures.turn
 
 pub invariant_of-self : goal.invariant_of-self
@@ -98,10 +97,10 @@ returns-clause-left g c = (promised g c).leaves
 pub returns-clause-calls : goal.returns-clause-calls
 returns-clause-calls g c =
     let i = c.self.invariant.0 in
-    subst (λ old. HasCalledFor g.P.Port.does old (cluster_then g c) (AllBuilds c.args.builds.now)
+    subst (λ old. HasCalled g.P.Port.does old (cluster_then g c) c.args.builds.now
     c.take_turn.result) c.self.view_is
     (has_called g.D.Disk.is_kept g.D.Disk.history g.D.Disk.failures_of g.P.Port.does
-    (cluster_of c.self.inside) (cluster_then g c) (AllBuilds c.args.builds.now) refl refl i.count i.world
+    (cluster_of c.self.inside) (cluster_then g c) c.args.builds.now refl refl i.count i.world
     i.is_world c.self.invariant.1 c.take_turn.result c.take_turn.ensures.calls)
 
 pub returns-clause-disks : goal.returns-clause-disks

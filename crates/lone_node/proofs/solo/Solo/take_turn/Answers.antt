@@ -1,61 +1,72 @@
 use Rattle.std.proofs.Common.{[], ap, refl, subst, sym}
 use Rattle.std.proofs.lemmas.Result.{err_from_is_err_and}
-use Rattle.std.specs.Prelude.{◌≡◌, ◌⊎◌, ℕ}
+use Rattle.std.specs.Prelude.{◌≡◌, ◌⊎◌, ℕ, option_map}
 use Rattle.turn_rules.specs.Acts.{asked_by}
 use Rattle.turn_rules.specs.declared.fault.TurnFault.TheVariants as refused
 use Rattle.node.specs.OnLog.{IsOnLog}
 use Rattle.node.specs.Step.{note_in}
 use Rattle.datagram_ports.specs.Kept.{GoesOnBy}
 use Rattle.lone_node.proofs.Below.{same_member, still_below}
-use Rattle.lone_node.proofs.Coming.{choice_heard}
 use Rattle.lone_node.proofs.Left.{alike, on_log_still}
-use Rattle.lone_node.proofs.Turned.{has_now, moments_so, readied_so, refused_so, taken_so, untouched_so}
-use Rattle.lone_node.specs.Handed.{AllBuilds}
-use Rattle.lone_node.specs.Turn.{HasTaken, IsUntouched, LeavesAtMost}
+use Rattle.lone_node.proofs.Turned.{has_now, heard_so, moments_so, readied_so, refused_so, taken_so, untouched_so}
+use Rattle.lone_node.specs.Handed.{handed}
+use Rattle.lone_node.specs.Turn.{HasTaken, IsHeard, IsUntouched, LeavesAtMost}
 use Rattle.lone_node.specs.inside.Turning.{IsTakingFault, solo_of}
 use Rattle.lone_node.proofs.solo.Solo.take_turn.Goals as goal
 
 pub take-requires-clause-readied : goal.take-requires-clause-readied
 take-requires-clause-readied g c =
+    let passed = handed (option_map (λ b. b.now) c.args.made) c.args.initiative in
     let s = c.self.inside in
     let now = c.args.self.now in
     let mid = solo_of c.choose.new.node s.pending c.choose.new.port in
-    readied_so g.P.Port.given g.P.Port.does g.P.Port.vouches now mid (AllBuilds c.args.builds.now) c.in-Some.readied
-    (has_now g.P.Port.given g.P.Port.does g.P.Port.vouches (solo_of s.node s.pending s.port) now mid (AllBuilds c.args.builds.now)
+    readied_so g.P.Port.given g.P.Port.does g.P.Port.vouches now mid passed c.in-Some.readied
+    (has_now g.P.Port.given g.P.Port.does g.P.Port.vouches (solo_of s.node s.pending s.port) now mid passed
     c.self.view_is c.in_ok-readied.field-0 c.in-Some.readied c.in-Some.is
     c.in_ok-readied.ensures.chosen)
 
 pub returns-in_ok-act-in-Some-clause-taken : goal.returns-in_ok-act-in-Some-clause-taken
 returns-in_ok-act-in-Some-clause-taken g c =
+    let passed = handed (option_map (λ b. b.now) c.args.made) c.args.initiative in
     let s = c.self.inside in
     let now = c.args.self.now in
     let mid = solo_of c.choose.new.node s.pending c.choose.new.port in
     let new = solo_of c.take.new.node c.take.new.pending c.take.new.port in
-    let has = has_now g.P.Port.given g.P.Port.does g.P.Port.vouches (solo_of s.node s.pending s.port) now mid (AllBuilds c.args.builds.now)
+    let has = has_now g.P.Port.given g.P.Port.does g.P.Port.vouches (solo_of s.node s.pending s.port) now mid passed
     c.self.view_is c.in_ok-readied.field-0 c.in-Some.readied c.in-Some.is
     c.in_ok-readied.ensures.chosen in
-    subst (λ act. HasTaken g.P.Port.given g.P.Port.offered g.P.Port.does g.P.Port.vouches now new (AllBuilds c.args.builds.now) (asked_by act))
+    subst (λ act. HasTaken g.P.Port.given g.P.Port.offered g.P.Port.does g.P.Port.vouches now new passed (asked_by act))
     (sym c.in_ok-act-in-Some.ensures.act)
-    (taken_so g.P.Port.given g.P.Port.does g.P.Port.vouches now mid new (AllBuilds c.args.builds.now) c.in-Some.readied has
-    c.take.ensures.given c.take.ensures.vouches_on g.P.Port.offered (ap (λ x. x.pending) c.self.view_is)
+    (taken_so g.P.Port.given g.P.Port.does g.P.Port.vouches now mid new passed c.in-Some.readied has
+    c.take.ensures.given g.P.Port.offered (ap (λ x. x.pending) c.self.view_is)
     (subst (λ x. GoesOnBy [] (g.P.Port.offered x.port) (g.P.Port.offered c.choose.new.port))
     c.self.view_is c.choose.ensures.offered)
     c.in_ok-act-in-Some.ensures.taken)
 
 pub returns-in_ok-act-in-Some-clause-heard : goal.returns-in_ok-act-in-Some-clause-heard
 returns-in_ok-act-in-Some-clause-heard g c =
-    choice_heard g.P.Port.given g.P.Port.does g.P.Port.vouches c.args.self.now
-    (solo_of c.take.new.node c.take.new.pending c.take.new.port) (AllBuilds c.args.builds.now) _
-    (asked_by c.in_ok-act-in-Some.act) (returns-in_ok-act-in-Some-clause-taken g c).chosen
-
-pub returns-in_ok-act-in-Some-clause-any_moment :
-    goal.returns-in_ok-act-in-Some-clause-any_moment
-returns-in_ok-act-in-Some-clause-any_moment g c =
+    let passed = handed (option_map (λ b. b.now) c.args.made) c.args.initiative in
     let s = c.self.inside in
     let now = c.args.self.now in
     let mid = solo_of c.choose.new.node s.pending c.choose.new.port in
     let new = solo_of c.take.new.node c.take.new.pending c.take.new.port in
-    let has = has_now g.P.Port.given g.P.Port.does g.P.Port.vouches (solo_of s.node s.pending s.port) now mid (AllBuilds c.args.builds.now)
+    let has = has_now g.P.Port.given g.P.Port.does g.P.Port.vouches
+    (solo_of s.node s.pending s.port) now mid passed c.self.view_is c.in_ok-readied.field-0
+    c.in-Some.readied c.in-Some.is c.in_ok-readied.ensures.chosen in
+    subst (λ act. IsHeard g.P.Port.vouches c.take.new.port (asked_by act))
+    (sym c.in_ok-act-in-Some.ensures.act)
+    (heard_so g.P.Port.given g.P.Port.does g.P.Port.vouches now mid new passed c.in-Some.readied has
+    c.take.ensures.given c.take.ensures.vouches_on)
+
+pub returns-in_ok-act-in-Some-clause-any_moment :
+    goal.returns-in_ok-act-in-Some-clause-any_moment
+returns-in_ok-act-in-Some-clause-any_moment g c =
+    let passed = handed (option_map (λ b. b.now) c.args.made) c.args.initiative in
+    let s = c.self.inside in
+    let now = c.args.self.now in
+    let mid = solo_of c.choose.new.node s.pending c.choose.new.port in
+    let new = solo_of c.take.new.node c.take.new.pending c.take.new.port in
+    let has = has_now g.P.Port.given g.P.Port.does g.P.Port.vouches (solo_of s.node s.pending s.port) now mid passed
     c.self.view_is c.in_ok-readied.field-0 c.in-Some.readied c.in-Some.is
     c.in_ok-readied.ensures.chosen in
     subst (λ act. LeavesAtMost g.D.Disk.is_kept g.D.Disk.history now new (asked_by act))
@@ -65,17 +76,18 @@ returns-in_ok-act-in-Some-clause-any_moment g c =
 
 pub returns-in_err-act-in-Some-clause-refused : goal.returns-in_err-act-in-Some-clause-refused
 returns-in_err-act-in-Some-clause-refused g c =
+    let passed = handed (option_map (λ b. b.now) c.args.made) c.args.initiative in
     let s = c.self.inside in
     let now = c.args.self.now in
     let mid = solo_of c.choose.new.node s.pending c.choose.new.port in
     let new = solo_of c.take.new.node c.take.new.pending c.take.new.port in
-    let has = has_now g.P.Port.given g.P.Port.does g.P.Port.vouches (solo_of s.node s.pending s.port) now mid (AllBuilds c.args.builds.now)
+    let has = has_now g.P.Port.given g.P.Port.does g.P.Port.vouches (solo_of s.node s.pending s.port) now mid passed
     c.self.view_is c.in_ok-readied.field-0 c.in-Some.readied c.in-Some.is
     c.in_ok-readied.ensures.chosen in
     let p = err_from_is_err_and c.from_residual-in_err-act-in-Some.result
     c.from_residual-in_err-act-in-Some.ensures.1 in
-    rw p.1 (refused_so g.P.Port.given g.P.Port.does g.P.Port.vouches now mid new (AllBuilds c.args.builds.now) c.in-Some.readied has
-    c.take.ensures.given c.take.ensures.vouches_on c.in_err-act-in-Some.ensures.left.1
+    rw p.1 (refused_so g.P.Port.given g.P.Port.does g.P.Port.vouches now mid new passed c.in-Some.readied has
+    c.take.ensures.given c.in_err-act-in-Some.ensures.left.1
     (LeavesAtMost g.D.Disk.is_kept g.D.Disk.history now new)
     (moments_so g.D.Disk.is_kept g.D.Disk.history now mid new has.same
     (asked_by c.in-Some.readied.act) c.take.ensures.any_moment) p.0
@@ -85,11 +97,12 @@ returns-in_err-act-in-Some-clause-refused g c =
 pub returns-in_err-act-in-Some-clause-untouched :
     goal.returns-in_err-act-in-Some-clause-untouched
 returns-in_err-act-in-Some-clause-untouched g c =
+    let passed = handed (option_map (λ b. b.now) c.args.made) c.args.initiative in
     let s = c.self.inside in
     let now = c.args.self.now in
     let mid = solo_of c.choose.new.node s.pending c.choose.new.port in
     let new = solo_of c.take.new.node c.take.new.pending c.take.new.port in
-    let has = has_now g.P.Port.given g.P.Port.does g.P.Port.vouches (solo_of s.node s.pending s.port) now mid (AllBuilds c.args.builds.now)
+    let has = has_now g.P.Port.given g.P.Port.does g.P.Port.vouches (solo_of s.node s.pending s.port) now mid passed
     c.self.view_is c.in_ok-readied.field-0 c.in-Some.readied c.in-Some.is
     c.in_ok-readied.ensures.chosen in
     let p = err_from_is_err_and c.from_residual-in_err-act-in-Some.result
@@ -101,22 +114,24 @@ returns-in_err-act-in-Some-clause-untouched g c =
 
 pub returns-in_err-readied-clause-on_log : goal.returns-in_err-readied-clause-on_log
 returns-in_err-readied-clause-on_log g c = λ kept on runs.
+    let passed = handed (option_map (λ b. b.now) c.args.made) c.args.initiative in
     let s = c.self.inside in
     let old = solo_of s.node s.pending s.port in
     let new = solo_of c.choose.new.node s.pending c.choose.new.port in
     on_log_still g.D.Disk.history s.node c.choose.new.node c.choose.ensures.log
-    (alike g.P.Port.given g.P.Port.does g.P.Port.vouches old new (AllBuilds c.args.builds.now)
+    (alike g.P.Port.given g.P.Port.does g.P.Port.vouches old new passed
     c.in_err-readied.field-0.0 c.in_err-readied.ensures.refused)
     (subst (λ x. IsOnLog g.D.Disk.history x.node) (sym c.self.view_is) on)
 
 pub invariant_of-self : goal.invariant_of-self
 invariant_of-self g c =
+    let passed = handed (option_map (λ b. b.now) c.args.made) c.args.initiative in
     let s = c.self.inside in
     let old = solo_of s.node s.pending s.port in
     let new = solo_of c.choose.new.node s.pending c.choose.new.port in
     still_below s.node.node.member new.node.node.member s.pending s.pending c.choose.new.unfailed
     (alike g.P.Port.given g.P.Port.does g.P.Port.vouches old new
-    (AllBuilds c.args.builds.now) c.in_err-readied.field-0.0
+    passed c.in_err-readied.field-0.0
     c.in_err-readied.ensures.refused).member refl c.choose.ensures.below
 
 pub take-requires-clause-below : goal.take-requires-clause-below

@@ -17,14 +17,17 @@ pub put-requires : goal.put-requires
 put-requires c =
     place_within c.args.self.now c.args.me c.requires.standing c.requires.reached c.requires.may
 
-pub returns-in-Ok-clause-taken : goal.returns-in-Ok-clause-taken
-returns-in-Ok-clause-taken c =
+pub returns-in-Ok-clause-does : goal.returns-in-Ok-clause-does
+returns-in-Ok-clause-does c =
     let s = c.args.self.now in
     let n = c.in-Ok.node in
     let t : WorldState = record s { nodes = c.put.new.nodes } in
     let but : IsBut s t = record { tree = refl; units = refl; weights = refl; tables = refl } in
-    (restarts_there s c.args.me c.requires.standing c.requires.reached c.requires.may
-    c.index.result.now c.index.ensures n c.in-Ok.ensures t but c.put.ensures).0
+    record {
+      restarts = (restarts_there s c.args.me c.requires.standing c.requires.reached c.requires.may
+          c.index.result.now c.index.ensures n c.in-Ok.ensures t but c.put.ensures).0;
+      is_done = c.nothing.ensures;
+    }
 
 pub returns-in-Ok-clause-standing : goal.returns-in-Ok-clause-standing
 returns-in-Ok-clause-standing c =

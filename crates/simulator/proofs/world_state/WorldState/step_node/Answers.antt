@@ -4,7 +4,7 @@ use Rattle.protocol.specs.Events.{event_view}
 use Rattle.simulator.specs.declared.slot.Slot.TheVariants.{Down, Up}
 use Rattle.simulator.specs.declared.world_state.WorldState.{WorldState}
 use Rattle.simulator.specs.inside.Standing.{world_of}
-use Rattle.simulator.proofs.StepHappens.{IsLeft, at_place, can, is_left, never_down, no_restart, ok_steps_happen, on_log}
+use Rattle.simulator.proofs.StepHappens.{IsLeft, at_place, can, is_left, never_down, no_restart, ok_steps_do, on_log}
 use Rattle.simulator.proofs.world_state.WorldState.step_node.Goals as goal
 
 pub step_node-requires-clause-asks : goal.step_node-requires-clause-asks
@@ -50,10 +50,10 @@ left c =
     }) c.step_node.result c.step_node.ensures.taken c.step_node.ensures.same
     c.step_node.ensures.refused c.step_node.ensures.on_log c.step_node.ensures.listed
 
-pub returns-clause-taken : goal.returns-clause-taken
-returns-clause-taken c =
-    ok_steps_happen (world_of c.args.self.now) (world_of (state_then c))
-    (event_view c.args.event.now) c.requires.step c.step_node.result (left c).taken
+pub returns-clause-does : goal.returns-clause-does
+returns-clause-does c =
+    ok_steps_do (world_of c.args.self.now) (world_of (state_then c))
+    (event_view c.args.event.now) c.requires.step c.step_node.result (left c).does
 
 pub returns-clause-same : goal.returns-clause-same
 returns-clause-same c = (left c).same

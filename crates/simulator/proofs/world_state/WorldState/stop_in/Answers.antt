@@ -23,8 +23,8 @@ prepare_in_slot-requires-clause-up c =
     is_on s e l c.requires.standing c.requires.reached c.requires.may place c.node_of-place.ensures
     old c.index_mut.ensures.value
 
-pub stop_with-requires : goal.stop_with-requires
-stop_with-requires c =
+pub stop_doing-requires : goal.stop_doing-requires
+stop_doing-requires c =
     let s = c.args.self.now in
     let e = event_view c.args.step.now in
     let l = c.args.left.now in
@@ -37,22 +37,23 @@ stop_with-requires c =
 -- ---- the step was made ready
 
 -- the state that the call leaves
-abbrev state_then : goal.After-stop_with → WorldState
-state_then c = with_nodes c.args.self.now c.stop_with.new.nodes
+abbrev state_then : goal.After-stop_doing → WorldState
+state_then c = with_nodes c.args.self.now c.stop_doing.new.nodes
 
-left : (c : goal.After-stop_with)
+left : (c : goal.After-stop_doing)
     → IsLeftIn c.args.self.now (event_view c.args.step.now) c.args.left.now (state_then c)
-    c.stop_with.result
+    c.stop_doing.result
 left c =
     left_there c.args.self.now (event_view c.args.step.now) c.args.left.now c.requires.standing
     c.requires.reached c.requires.may c.node_of-place.result c.node_of-place.ensures
     c.index_mut.result.now c.index_mut.ensures.value c.prepare_in_slot.new.slot c.in-Ok.ready
     c.in-Ok.ensures (c.host_fits.ensures (world_of c.args.self.now).sent) (state_then c)
     (record { tree = refl; units = refl; weights = refl; tables = refl })
-    c.stop_with.result c.stop_with.ensures.stopped c.stop_with.ensures.none
+    c.stop_doing.result c.stop_doing.ensures.done c.stop_doing.ensures.stopped
+    c.stop_doing.ensures.none
 
-pub returns-in-Ok-clause-taken : goal.returns-in-Ok-clause-taken
-returns-in-Ok-clause-taken c = (left c).taken
+pub returns-in-Ok-clause-does : goal.returns-in-Ok-clause-does
+returns-in-Ok-clause-does c = (left c).does
 
 pub returns-in-Ok-clause-same : goal.returns-in-Ok-clause-same
 returns-in-Ok-clause-same c = (left c).same

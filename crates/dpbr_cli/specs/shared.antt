@@ -1,0 +1,2 @@
+-- What bodies and proofs of other crates need, too.
+pub mod Matches

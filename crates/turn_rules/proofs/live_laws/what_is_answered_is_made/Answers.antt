@@ -1,5 +1,0 @@
-use Rattle.turn_rules.proofs.Choosing.{answers_what_is_made}
-use Rattle.turn_rules.proofs.live_laws.what_is_answered_is_made.Goals as goal
-
-pub returns : goal.returns
-returns c = answers_what_is_made
