@@ -24,7 +24,7 @@ fn main(rt: HostRuntime) -> ExitCode {
     ExitCode::from(status)
 }
 
-/// Whether these are the words of a node that runs until it is told to end, or for many turns.
+/// Whether these are the words of a node that runs until a signal ends it, or for many turns.
 fn runs_a_node(words: &[String]) -> bool {
     match words.get(1) {
         Some(word) => word.as_str() == "node" || word.as_str() == "build",

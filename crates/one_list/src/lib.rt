@@ -2,7 +2,7 @@
 //! world does, unit by unit, what the agreement theory allows.
 //!
 //! Functions with an empty body carry laws. The proofs are in folders, in the order of the steps
-//! that docs/HEADLINE.md explains.
+//! that docs/PROOF.md explains.
 #![tactic(auto)]
 
 mod theorem;

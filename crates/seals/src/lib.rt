@@ -1,6 +1,6 @@
-//! The seal that the nodes of a run append to each text that they send, and by which they tell it
-//! from the texts of others: an HMAC with SHA-512, cut to 32 bytes (RFC 2104). That nobody can make
-//! a seal without the key is assumed of HMAC, and not proved.
+//! The seal that the nodes of a run append to each text that they send: an HMAC with SHA-512, cut
+//! to 32 bytes (RFC 2104). By it they know each other's texts. That nobody can make a seal without
+//! the key is assumed of HMAC, and not proved.
 #![tactic(auto)]
 
 mod code;

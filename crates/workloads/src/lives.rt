@@ -54,7 +54,7 @@ impl Trace {
     /// The whole text.
     pub fn finish(self) -> io::Result<Vec<u8>> {
         let Trace { mut text, .. } = self;
-        // behind the last event stands a comma
+        // the last event ends with a comma
         let _comma = text.pop();
         text.extend_from_slice(b"],\"members\":3}")?;
         Ok(text)

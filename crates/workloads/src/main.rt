@@ -1,6 +1,6 @@
-//! Works that `dpbr` is there for, on inputs that are made up, for benches. The texts that a work
-//! reads are made in memory from the seed, and each is another; what is printed is the work's name,
-//! the digest of all that was answered, and the first line of the last answer.
+//! The works of `dpbr` on made inputs, for benches. A work's texts are made in memory from the
+//! seed, and no two are the same. The program prints the work's name, the digest of all answers,
+//! and the first line of the last answer.
 //!
 //! `workloads WORK SEED PATHS TIMES` does one work: `status`, `audit`, `run`, `chain`, `again` or
 //! `large`; `workloads all SEED PATHS TIMES` does each, one after the other.

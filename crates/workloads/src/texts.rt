@@ -13,9 +13,9 @@ pub enum Ending {
     Right,
     /// The last thing that the last package was built on is left out.
     Short,
-    /// The last package stands there twice.
+    /// The last package is listed twice.
     Twice,
-    /// A package that is not listed stands behind it.
+    /// A package that the listing lacks comes after it.
     Unlisted,
 }
 
@@ -37,8 +37,8 @@ pub fn held_text(
     Ok(out)
 }
 
-/// A list of all packages in the order of the listing, where each dependency stands before what is
-/// built on it.
+/// A list of all packages in the order of the listing. Each dependency comes before what is built
+/// on it.
 pub fn list_text(alloc: Global, numbers: &mut Numbers, made: &Made) -> io::Result<Vec<u8>> {
     let mut signatures = Vec::new(alloc);
     for package in &made.packages {
@@ -70,7 +70,7 @@ pub fn with_ending(alloc: Global, list: &[u8], ending: Ending) -> io::Result<Vec
     Ok(out)
 }
 
-/// Where the word stands last in the text, or its end where it stands nowhere.
+/// The last place of the word in the text; the end of the text if it lacks the word.
 fn place_of_last(text: &[u8], word: &[u8]) -> usize
     ensures { result ≤ length text.now }
 {

@@ -78,7 +78,7 @@ pub fn in_layers(
     Ok(made)
 }
 
-/// Where the layer of the place begins: what stands before it may be needed there.
+/// Where the layer of the place begins: packages of it may need what comes before.
 fn layer_of(place: usize, paths: usize) -> usize {
     let size = (paths / LAYERS).max(1);
     place / size * size
