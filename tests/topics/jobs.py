@@ -464,20 +464,21 @@ def unit_tests(tally):
     """The parts of the tools one by one, and their types and style and those of what runs the tests, as far as the programs for that are here."""
     typed = ["--strict", "--cache-dir", os.devnull]
     style = ["--max-line-length", "140"]
-    tools, tests = f"{TOP}/tools/dpbn_tools", f"{TESTS}/topics/lanes.py"
+    tools, lanes = f"{TOP}/tools/dpbn_tools", "topics.lanes"
+    styled = [f"{TESTS}/run", *(f"{TESTS}/topics/{name}.py" for name in ("lanes", "network", "tally"))]
     for name, what, words in (("pytest", "the tools", ["-q", "-p", "no:cacheprovider", f"{TESTS}/unit"]),
                               ("mypy", "the tools", [*typed, "--python-version", "3.8", tools]),
-                              ("mypy", "the tests' lanes", [*typed, "--python-version", "3.9", "--follow-imports", "silent", tests]),
+                              ("mypy", "the tests' lanes", [*typed, "--python-version", "3.9", "--follow-imports", "silent", "-m", "topics.network", "-m", lanes]),
                               ("mypy", "tests/soak", [*typed, "--python-version", "3.8", "--follow-imports", "silent", "-p", "soak_parts"]),
                               ("flake8", "the tools", [*style, tools, f"{TOP}/tools/build-jobs", f"{TOP}/tools/make-builds"]),
-                              ("flake8", "the tests' lanes", [*style, tests, f"{TESTS}/run"]),
+                              ("flake8", "the tests' lanes", [*style, *styled]),
                               ("flake8", "tests/soak", [*style, f"{TESTS}/soak", f"{TESTS}/soak_parts"])):
         found = next((path for path in map(shutil.which, (f"/usr/bin/{name}", name, f"{name}-3")) if path), None)
         if not found:
             tally.skip(f"{name} on {what}", f"there is no {name} here")
             continue
         # where the modules of the tests are found
-        more = {tests: f"{TESTS}:{TOP}/tools", "soak_parts": f"{TESTS}:{TOP}/bench"}.get(words[-1])
+        more = {lanes: f"{TESTS}:{TOP}/tools", "soak_parts": f"{TESTS}:{TOP}/bench"}.get(words[-1])
         done = subprocess.run([found, *words], cwd=TOP, capture_output=True, text=True, timeout=600, env={**os.environ, **({"MYPYPATH": more} if more else {})})
         tally.add(f"{name} on {what}", "" if done.returncode == 0 else (done.stdout + done.stderr)[-3000:])
 
