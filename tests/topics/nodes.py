@@ -42,6 +42,8 @@ def node_line(me, i=0, q=0):
 BASES = iter(random.sample(range(20_000, 32_000, 10), 1_200))
 # sockets at the tenth, as long as this process runs, so that no other process of tests is given these ports
 GIVEN = []
+# how often something is tried with other ports, since somebody else may take the first ones before they are used
+TRIES = 5
 # a folder in memory, where the system has one
 MEMORY = "/dev/shm" if os.path.isdir("/dev/shm") else None
 ALL = node_line(0, i=1) + node_line(1, i=1) + node_line(2, i=1)
@@ -104,6 +106,15 @@ def free_ports(count):
             GIVEN.append(mark)
             return base
     raise OSError("no ports are free")
+
+
+def heard(ear, what, seconds=LIMIT):
+    """The next datagram that arrives there. If none does, what was waited for is said."""
+    ear.settimeout(seconds)
+    try:
+        return ear.recv(65_536)
+    except socket.timeout:
+        raise TimeoutError(f"nothing came for {seconds} s: {what}") from None
 
 
 def told_by_run(folder, listing, trace, single=()):
@@ -606,19 +617,31 @@ def grown(path, size, seconds=LIMIT):
 def overheard(folder):
     """A datagram that a node of another listing sends to the next one."""
     put(f"{folder}/other", b"a/c.FULLPKGNAME=c-1.0\n")
-    os.mkdir(f"{folder}/more")
-    base, ear = free_ports(3), None
-    while not ear:
-        try:
-            ear = taken(base + 1)
-        except OSError:
-            # somebody else took it since
-            base = free_ports(3)
-    with ear:
-        ear.settimeout(LIMIT)
-        answer(["node", "--listing", "other", "--builds", "builds", "--dir", "more", "--members", "3", "--me", "0", "--base", str(base),
-                "--turns", "2", "--patience", "0"], folder)
-        return ear.recv(65_536)
+    told = []
+    for number in range(TRIES):
+        logs = f"more-{number}"
+        os.mkdir(f"{folder}/{logs}")
+        base = free_ports(3)
+        with contextlib.suppress(TimeoutError), taken(base + 1) as ear:
+            told.append(answer(["node", "--listing", "other", "--builds", "builds", "--dir", logs, "--members", "3", "--me", "0", "--base", str(base),
+                                "--turns", "20", "--patience", "0"], folder))
+            if told[-1][2] == 0:
+                # it has ended, so what it sent is there
+                return heard(ear, "what a node of another listing sends to the next one", 60)
+    raise OSError(f"{TRIES} nodes of another listing sent nothing to the next one: {told}")
+
+
+def that_listen(folder, members, words):
+    """Nodes of three that run, and where each listens. If one of them can't take its port, others are tried."""
+    for _ in range(TRIES):
+        base = free_ports(3)
+        run = [started(folder, me, ["--base", str(base), *words]) for me in members]
+        where = [listening(node) for node in run]
+        if all(where):
+            return run, where
+        told = [ended(node) for node in run]
+        lay_logs(folder)
+    raise OSError(f"{TRIES} times a node of {members} didn't listen: {where}, {told}")
 
 
 def noise(tally):
@@ -628,16 +651,15 @@ def noise(tally):
         lay(folder)
         strange = [b"", b"noise", bytes(1_000), random.Random(1).randbytes(65_507), overheard(folder)]
         told = len(strange) * b"dpbn: fault 1202\n"
-        base = free_ports(3)
-        nodes = [started(folder, me, ["--base", str(base), "--turns", ENOUGH]) for me in range(3)]
-        for node in nodes:
-            put_in(listening(node), strange)
+        nodes, where = that_listen(folder, range(3), ["--turns", ENOUGH])
+        for place in where:
+            put_in(place, strange)
         got = [(*node.communicate(timeout=LIMIT), node.returncode) for node in nodes]
         for me in range(3):
             tally.add(f"node {me} with noise", difference(got[me], (node_line(me, i=1), told, 0)))
         lay_logs(folder)
-        lone = started(folder, 0, ["--base", str(base), "--turns", ENOUGH])
-        put_in(listening(lone), strange)
+        (lone,), (place,) = that_listen(folder, [0], ["--turns", ENOUGH])
+        put_in(place, strange)
         tally.add("a node without others, with noise", difference((*lone.communicate(timeout=LIMIT), lone.returncode), (node_line(0, q=1), told, 0)))
         lay_logs(folder)
         run = waiting_cluster(folder)

@@ -401,9 +401,8 @@ def flipped(tally):
         lay_run(folder)
         port = free_ports(1)
         with taken(port, "127.0.0.3") as mouth:
-            mouth.settimeout(LIMIT)
             node = begun(folder, 0, keyed(port))
-            genuine = [mouth.recv(65_536) for _ in range(20)]
+            genuine = [nodes.heard(mouth, f"datagram {number + 1} of node 0, which printed {lines_of(folder, 0)[-5:]}") for number in range(20)]
             before = at_rest(folder, 0)
 
             def one(number):
