@@ -128,7 +128,8 @@ def case(tally, kind, name):
     stored = f"{TESTS}/{kind}/{name}"
     words = contents(f"{stored}/words").decode().split()
     wanted = contents(f"{stored}/stdout")
-    with tempfile.TemporaryDirectory() as folder:
+    # what stays on a disk isn't asked here, and each note of a log would wait for it
+    with tempfile.TemporaryDirectory(dir=MEMORY) as folder:
         for file in ("LISTING", "BUILDS"):
             shutil.copy(f"{stored}/{file}", folder)
         os.mkdir(f"{folder}/DIR")
@@ -235,7 +236,7 @@ def cluster_faults(tally):
             ("2", {"--listing": "none"}), ("401 at 1", {"--listing": "bad"}), ("2", {"--builds": "none"}), ("1305 at 0", {"--builds": "bad"}),
             ("801", {"--weights": "1,2"}), ("2", {"--dir": "none"}), ("1204", {})), preexec_fn=no_files_left)
         words = ["cluster", *SHARED, "--members", "3", "--turns", "200"]
-        answer(words, folder)
+        tally.add("a cluster whose logs are refused later", difference(answer(words, folder), (ALL, b"", 0)))
         none, used = b"this isn't a log", logs_in(folder)
         # one log after the other, by number
         for first, second, wanted in ((none, used["node-1.log"], 1004), (used["node-1.log"], none, 1005), (used["node-0.log"], none, 1203),
@@ -538,8 +539,8 @@ def nothing_seen(me):
     return b"".join(b"dpbn: member %d: heard 0, sealed otherwise 0, asked again 0, unsent 0\n" % it for it in range(3) if it != me) + b"dpbn: strangers: 0\n"
 
 
-# turns that are enough for three nodes to hold a package, though one of them starts some seconds after another
-ENOUGH = "500"
+# turns that are enough for three nodes to hold a package, though one of them starts twenty seconds after another
+ENOUGH = "1000"
 
 
 def hosts(tally):
@@ -802,12 +803,15 @@ class Full:
 
 
 def held_by_all(tally, name, nodes, packages):
-    """Nodes that print their lines as they go obtain all while they run."""
+    """Nodes that print their lines as they go obtain all while they run. They are ended if that takes too long."""
     held, lines = [], Lines()
+    limit = threading.Timer(LIMIT, lambda: [node.kill() for node in nodes])
+    limit.start()
     for me, node in enumerate(nodes):
         told = []
         held.append(any(told.append(line) or line == node_line(me, i=packages) for line in iter(node.stderr.readline, b"")))
         lines += [f"node {me}: {node.poll()}, it printed {len(told)} lines, the last:", *(f"    {line!r}" for line in told[-4:])]
+    limit.cancel()
     for node in nodes:
         ended(node)
     tally.add(name, "" if all(held) else seen(lines))
@@ -825,7 +829,7 @@ def kills(tally, rounds=20, seed=1, packages=60, sealing=False, look=lambda fold
         spots = [(f"127.0.0.{me + 1}", base) if sealing else ("127.0.0.1", base + me) for me in range(3)]
         peers = ["--base", str(base)]
         if sealing:
-            answer(["key", "key"], folder)
+            subprocess.run([NODES, "key", "key"], cwd=folder, check=True, timeout=LIMIT)
             peers = ["--hosts", ",".join(f"{address}:{port}" for address, port in spots), "--key", "key"]
         words = [*peers, "--turns", "1000000", "--patience", "5"]
         nodes = [started(folder, me, words) for me in range(3)]
@@ -923,7 +927,6 @@ def beside(tally, several, at_a_time=None):
 
 
 def run(tally):
-    # they wait for syncs of their logs
     beside(tally, [functools.partial(case, kind="nodes", name=name) for name in sorted(os.listdir(f"{TESTS}/nodes"))], 4)
     for one in (no_calls, helps, faults, cluster_faults, bad_words, refused_logs, alone, cluster, exact_turns, progress, failing, sockets, kills):
         tally.case(one)
