@@ -90,7 +90,7 @@ class Build:
     job, about       the job's text; the unit, the place and when it began, as JSON
     control          a FIFO that the supervisor reads as long as it runs
     status           how the command ended, by the supervisor
-    group            the command's process group, by its first process
+    group            the command's process group, by its first process; all of them have the file open and locked
     names, packages, signatures  the files whose names the command gets
     """
 
@@ -161,8 +161,7 @@ class Build:
         return env
 
     def start(self, words: List[str], log: int, grace: float, env: Dict[str, str], begun: int) -> None:
-        """Starts the command, which has `begun` open as long as it runs. Somebody reads the FIFO from before that until its supervisor
-        ends."""
+        """Starts the command. Somebody reads the FIFO from before it runs until its supervisor ends, which has `begun` open so long."""
         watched = os.open(self.file("control"), os.O_RDONLY | os.O_NONBLOCK | os.O_CLOEXEC)
         control = os.open(self.file("control"), os.O_WRONLY | os.O_NONBLOCK | os.O_CLOEXEC)
         try:
@@ -205,7 +204,7 @@ class Build:
         self.ended = self.ended or self.status()
         if self.ended or self.is_noted():
             return True
-        self.group = self.group or Group(self.noted_group(), self.begun_file(), self.command is not None)
+        self.group = self.group or Group(self.noted_group(), self.file("group"), self.command is not None)
         return self.group.has_ended(grace)
 
     def is_gone(self) -> bool:
@@ -234,10 +233,6 @@ class Build:
         if not noted.strip() and self.command:
             return f"{self.command.group()} {self.command.began:.1f}\n"
         return noted
-
-    def begun_file(self) -> str:
-        """The file that shows the job as begun, which the command keeps open. This folder is WORK/build/NAME."""
-        return f"{os.path.dirname(os.path.dirname(self.folder))}/begun/{self.job.name}"
 
     def seconds(self) -> float:
         return self.ended.seconds if self.ended else max(0.0, time.time() - self.began)

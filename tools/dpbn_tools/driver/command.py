@@ -75,7 +75,7 @@ SERVER = ForkServer()
 
 class Command:
     """A command that runs, or has run. What it reports comes by a pipe, which has an end once its supervisor is gone. The supervisor
-    watches one descriptor, and the command keeps others open as long as it runs."""
+    watches one descriptor, and keeps others open as long as it runs."""
 
     def __init__(self, words: Sequence[str], kind: str, watched: int, grace: float, folder: str, out: int, env: Dict[str, str],
                  where: str = "", close: Callable[[], None] = lambda: None, kept: Tuple[int, ...] = ()) -> None:

@@ -64,7 +64,7 @@ def is_locked(path: str) -> bool:
 
 class Group:
     """A group by its number, which may be another group's by now. It is the build's if its first process began when that was noted; or,
-    if that one has ended, if the lock is held that the build's processes have. Of one that this driver began that is known anyway."""
+    if that one has ended, if the file is locked that the build's processes have open. Of one that this driver began that is known."""
 
     def __init__(self, note: str, lock: str, is_own: bool) -> None:
         found = NOTED.match(note)

@@ -4,19 +4,19 @@
 
 This is a fork server: it waits for requests, forks a supervisor for each, and ends with its driver. A request is a byte in the socket with
 these descriptors: the request's text, what the supervisor watches, where it reports, what the command prints to, and those that the
-command keeps open. The text has these fields, each with a zero byte after it:
+supervisor keeps open. The text has these fields, each with a zero byte after it:
 
     COUNT of the other fields, build or helper, GRACE, FOLDER, working folder, NUMBER of words, WORD .., NAME=VALUE ..
 
-The command runs in a process group of its own. When it ends, what is left of that group is killed. The command doesn't get what the
-supervisor watches and where it reports, so that it can't close them.
+The command runs in a process group of its own. When it ends, what is left of that group is killed. The command doesn't get what its
+supervisor has open, so that it can't close that.
 
 A build goes on without its driver. Its supervisor watches the FIFO `control` in FOLDER: as long as it runs somebody reads there, and a byte
-that is written there asks it to end the build. The command keeps the file open that shows the job as begun, and so its lock. If the
-supervisor is killed, too, what is left of the build is known by that lock, and by the file `group` in FOLDER, which has the number of the
-group and when it began by the system's clock.
+that is written there asks it to end the build. It keeps the file open that shows the job as begun, which is locked.
 After a build that ended with 0, the files below FOLDER/out are synced. How it ended is written into FOLDER/status, or `asked` if it was
-asked to end. The driver made both files as long as they have to be, so that a full disk can't keep anybody from that.
+asked to end. FOLDER/group has the number of the command's group, and when it began by the system's clock; the command keeps that file open
+and locked. So what is left of a build is known whose supervisor was killed. The driver made both files as long as they have to be, so that
+a full disk can't keep anybody from writing them.
 
 A helper ends with its driver: its supervisor watches the end of a pipe that the driver holds.
 
@@ -26,6 +26,7 @@ from __future__ import annotations
 
 import array
 import errno
+import fcntl
 import os
 import select
 import signal
@@ -36,6 +37,8 @@ from typing import Dict, List, NamedTuple
 
 # how often is looked for what is left of a group that is to end, in seconds
 PAUSE = 0.02
+# from which number on the command has the file of its group open: scripts use the small ones
+KEPT = 100
 # the most descriptors of a request
 MOST_NUMBERS = 8
 
@@ -60,7 +63,7 @@ def text_of(kind: str, grace: float, folder: str, where: str, command: List[str]
 def request_of(text: bytes) -> Request | None:
     """The request that has this text; None if it isn't whole, since the driver was killed meanwhile."""
     count, *fields = text.split(b"\0")
-    if not count or fields.pop() or len(fields) != int(count):
+    if not fields or fields.pop() or len(fields) != int(count):
         return None
     kind, grace, folder, where, words = fields[:5]
     most = 5 + int(words)
@@ -80,7 +83,7 @@ def start(request: Request) -> tuple[int, int]:
             if hasattr(signal, "SIGXFSZ"):
                 signal.signal(signal.SIGXFSZ, signal.SIG_DFL)
             if request.kind == "build":
-                write(f"{request.folder}/group", f"{os.getpid()} {time.monotonic():.1f}\n", False)
+                note_group(f"{request.folder}/group")
             if request.where:
                 os.chdir(request.where)
             os.execvpe(request.command[0], request.command, request.env)
@@ -99,15 +102,17 @@ def start(request: Request) -> tuple[int, int]:
     return child, int(told) if told else 0
 
 
-def write(path: str, text: str, is_synced: bool) -> None:
-    """Writes a text over the begin of a file."""
-    number = os.open(path, os.O_WRONLY | os.O_CLOEXEC)
+def note_group(path: str) -> None:
+    """Writes down which group this process leads, and since when. It and all that it begins keep the file open and locked."""
+    number = os.open(path, os.O_RDWR | os.O_CLOEXEC)
+    os.pwrite(number, f"{os.getpid()} {time.monotonic():.1f}\n".encode(), 0)
     try:
-        os.pwrite(number, text.encode(), 0)
-        if is_synced:
-            os.fsync(number)
-    finally:
-        os.close(number)
+        fcntl.flock(number, fcntl.LOCK_EX | fcntl.LOCK_NB)
+        fcntl.fcntl(number, fcntl.F_DUPFD, KEPT)
+    except OSError:
+        # there are no locks there, or no such numbers here: the group is known by its first process alone
+        pass
+    os.close(number)
 
 
 def send(group: int, number: int) -> bool:
@@ -266,7 +271,10 @@ class Supervisor:
         path = f"{self.request.folder}/status"
         try:
             if self.request.kind == "build":
-                write(path, f"{how}\n", True)
+                number = os.open(path, os.O_WRONLY)
+                os.pwrite(number, f"{how}\n".encode(), 0)
+                os.fsync(number)
+                os.close(number)
         except OSError as error:
             if error.errno != errno.ENOENT:
                 os.write(2, os.fsencode(f"supervisor: {path}: {error}\n"))
@@ -274,7 +282,7 @@ class Supervisor:
 
 def supervise(numbers: list[int]) -> None:
     """Reads a request, and runs its command. The driver goes on as soon as the report has an end."""
-    text, watched, report, out, *kept = numbers
+    text, watched, report, out = numbers[:4]
     with open(text, "rb") as file:
         request = request_of(file.read())
     if not request:
@@ -283,8 +291,6 @@ def supervise(numbers: list[int]) -> None:
     for number in (1, 2):
         os.dup2(out, number)
     os.close(out)
-    for number in kept:
-        os.set_inheritable(number, True)
     Supervisor(request, watched, report).run()
 
 
