@@ -243,12 +243,22 @@ def test_a_folder_that_cannot_be_laid_out_leaves_nothing(tmp_path, monkeypatch):
     assert os.listdir(f"{tmp_path}/work/build") == [] and os.listdir(f"{tmp_path}/work/begun") == []
 
 
-def test_a_folder_in_which_something_is_mounted_stays(tmp_path, monkeypatch):
+@pytest.mark.parametrize("is_linux", [True, False])
+def test_a_folder_in_which_something_is_mounted_stays(tmp_path, monkeypatch, is_linux):
     os.makedirs(tmp_path / "x" / "ports")
     with monkeypatch.context() as patched:
+        patched.setattr(builds, "mounted", lambda: [b"/", os.fsencode(tmp_path / "x" / "ports")] if is_linux else None)
         patched.setattr(builds, "printed_by", lambda *_: f"/dev/sd0a on {tmp_path}/x/ports type ffs (local)\n".encode())
         assert not any(builds.remove_folder(f"{tmp_path}/{it}") for it in ("x", "x/ports")) and (tmp_path / "x" / "ports").is_dir()
+        os.mkdir(tmp_path / "x" / "port")
+        assert builds.remove_folder(f"{tmp_path}/x/port")
     assert builds.remove_folder(f"{tmp_path}/x")
+
+
+def test_mounts_of_any_name(monkeypatch, tmp_path):
+    (tmp_path / "mountinfo").write_bytes(b"36 35 98:0 /r /a\\040b\\134c\\012 rw - ext3 /dev/root rw\n37 36 0:1 / /x shared:2 - tmpfs t rw\n")
+    monkeypatch.setattr(builds, "open", lambda *words: open(tmp_path / "mountinfo", *words[1:]), raising=False)
+    assert builds.mounted() == [b"/a b\\c\n", b"/x"]
 
 
 def test_a_folder_without_a_command_is_not_taken_over(tmp_path):

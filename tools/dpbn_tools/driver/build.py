@@ -65,10 +65,23 @@ def printed_by(*words: str) -> bytes:
     return subprocess.run([found, *words[1:]], stdin=null, stdout=subprocess.PIPE, stderr=null, check=False).stdout
 
 
+def mounted() -> Optional[List[bytes]]:
+    """Where something is mounted, by Linux; None if it is another system."""
+    try:
+        with open("/proc/self/mountinfo", "rb") as file:
+            places = [line.split(b" ")[4] for line in file]
+    except (OSError, IndexError):
+        return None
+    return [re.sub(rb"\\([0-7]{3})", lambda found: bytes([int(found[1], 8)]), place) for place in places]
+
+
 def has_mounts(folder: str) -> bool:
     """Whether something is mounted on the folder or below it, as a build may have left it."""
-    printed, place = printed_by("mount"), os.path.realpath(folder)
-    return any(os.fsencode(f" on {place}{end}") in printed for end in "/ ")
+    place, places = os.fsencode(os.path.realpath(folder)), mounted()
+    if places is not None:
+        return any(it == place or it.startswith(place + b"/") for it in places)
+    printed = printed_by("mount")
+    return any(b" on " + place + end in printed for end in (b" ", b"/"))
 
 
 def remove_folder(folder: str) -> bool:
@@ -112,6 +125,8 @@ class Build:
         self.made: Optional[Packages] = None
         self.text: Optional[List[str]] = None
         self.is_busy, self.due, self.is_reused = False, 0.0, False
+        # whether it is due once a file of it was pushed
+        self.awaits_push = False
         # when its limits are looked at again
         self.limits_due = 0.0
         # what is in DEPS, which of a build of an earlier run isn't known yet; and the key under which it is kept

@@ -36,6 +36,8 @@ IDLE, BUSY, LONGEST_BUSY = 0.05, 0.02, 5
 PATIENCE = 5
 # how often the files of a job that waits are looked at, and the free disk, in seconds
 FILES_EACH, POLL_EACH, FREE_EACH = 0.2, 1, 1
+# of how many files on that holds; fewer are looked at sooner after one came
+MANY_FILES = 100
 # how long a build that was asked to end may take beyond its grace before that is reported, in seconds
 LONGEST_END = 5
 # how long a build of an earlier run is kept that nobody asks for, in seconds
@@ -110,8 +112,7 @@ class Driver:
         self.guarded("log", self.look_at_log)
         self.guarded("store", self.store.look)
         self.guarded("fetches", self.fetches.look)
-        if self.pushes:
-            self.guarded("pushes", self.pushes.look)
+        self.guarded("pushes", self.look_at_pushes)
         self.guarded("jobs", self.look_at_jobs)
         self.guarded("builds", self.look_at_builds)
         self.guarded("limits", self.limits.look)
@@ -171,6 +172,13 @@ class Driver:
             self.lines.tell(f"? {self.held.path}: {bad}: it is read again")
             self.held.reopen()
             self.due["log"] = time.monotonic() + PATIENCE
+
+    def look_at_pushes(self) -> None:
+        """Has builds go on that wait for pushes once one has ended."""
+        if self.pushes and self.pushes.look():
+            for build in self.builds:
+                if build.awaits_push:
+                    build.due = 0.0
 
     # ---- jobs
 
@@ -335,7 +343,7 @@ class Driver:
             return False
         now = time.monotonic()
         if posted.unsure and now >= posted.files_due and (posted.version != self.store.version or now >= posted.poll_due):
-            posted.files_due, posted.version = now + FILES_EACH, self.store.version
+            posted.files_due, posted.version = now + FILES_EACH * min(1, len(posted.unsure) / MANY_FILES), self.store.version
             self.look_for_files(posted)
             # others may put files into the store: the more are missing, the longer it takes to look
             posted.poll_due = now + POLL_EACH + len(posted.unsure) / 1000
@@ -461,8 +469,7 @@ class Driver:
         end = time.monotonic() + self.asked.grace + 1
         while time.monotonic() < end and any(self.is_wanted(build) for build in self.builds):
             self.tasks.look()
-            if self.pushes:
-                self.guarded("pushes", self.pushes.look)
+            self.guarded("pushes", self.look_at_pushes)
             self.due.pop("builds", None)
             self.guarded("builds", self.look_at_builds)
             self.wait()

@@ -19,6 +19,8 @@ from dpbn_tools.driver.times import Times
 MOMENT = 1
 # before what the system refused is tried again, in seconds
 PATIENCE = 5
+# how often is looked whether the files of a build are pushed, besides when one was, in seconds
+PUSHES_EACH = 1
 ENDS = "this driver ends"
 
 
@@ -85,9 +87,10 @@ class Endings:
         elif build.text is None:
             self.step(build, lambda: self.steps.examine(build, self.limits), lambda: None)
         elif self.is_pushed(build):
+            build.awaits_push = False
             self.step(build, lambda: self.steps.hand_in(build), lambda: self.handed_in(build))
         else:
-            build.due = time.monotonic() + 0.1
+            build.awaits_push, build.due = True, time.monotonic() + PUSHES_EACH
 
     def step(self, build: Build, work: Callable[[], None], then: Callable[[], None]) -> None:
         """Does a step next to the loop. What the system refuses is reported, and tried again in a while."""

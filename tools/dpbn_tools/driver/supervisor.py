@@ -84,8 +84,6 @@ def start(request: Request) -> tuple[int, int]:
                 signal.signal(signal.SIGXFSZ, signal.SIG_DFL)
             if request.kind == "build":
                 note_group(f"{request.folder}/group")
-            if request.where:
-                os.chdir(request.where)
             os.execvpe(request.command[0], request.command, request.env)
         except OSError as error:
             os.write(writes, str(error.errno).encode())
@@ -288,6 +286,8 @@ def supervise(numbers: list[int]) -> None:
     if not request:
         return
     os.setsid()
+    if request.where:
+        os.chdir(request.where)
     for number in (1, 2):
         os.dup2(out, number)
     os.close(out)
