@@ -26,7 +26,7 @@ from dpbn_tools.driver.job import Job, NoJob
 from dpbn_tools.driver.limits import BadLimits, read_limits
 from dpbn_tools.driver.lines import Lines
 from dpbn_tools.driver.posted import Posted
-from dpbn_tools.driver.supervisor import request_of, text_of
+from dpbn_tools.driver.supervisor import request_of, since_boot, text_of
 from dpbn_tools.driver.tasks import Tasks
 from dpbn_tools.driver.times import Times
 from dpbn_tools.driver.transfers import Hosts
@@ -623,7 +623,7 @@ def a_group(script, *kept):
     """A group of its own, of a shell that runs a script."""
     process = subprocess.Popen(["sh", "-c", script], start_new_session=True, pass_fds=kept)
     try:
-        yield process.pid, time.monotonic()
+        yield process.pid, since_boot()
     finally:
         with contextlib.suppress(ProcessLookupError):
             os.killpg(process.pid, signal.SIGKILL)

@@ -246,7 +246,8 @@ class Build:
         """Which group it has, and since when."""
         noted = self.read("group")
         if not noted.strip() and self.command:
-            return f"{self.command.group()} {self.command.began:.1f}\n"
+            # the folder was taken away
+            return f"{self.command.group()} 0.0\n"
         return noted
 
     def seconds(self) -> float:

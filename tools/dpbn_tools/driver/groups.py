@@ -9,6 +9,8 @@ import subprocess
 import time
 from typing import List, NamedTuple, Optional
 
+from dpbn_tools.driver.supervisor import since_boot
+
 NOTED = re.compile(r"([0-9]+) ([0-9]+\.[0-9])\n")
 # how much the age that the system reports of a process may differ from the one by its note, in seconds
 COARSE = 5
@@ -84,7 +86,7 @@ class Group:
         ages = [process.age for process in its if process.number == self.number]
         if not its or self.is_own:
             return bool(its)
-        return abs(time.monotonic() - self.began - ages[0]) <= COARSE if ages else is_locked(self.lock)
+        return abs(since_boot() - self.began - ages[0]) <= COARSE if ages else is_locked(self.lock)
 
     def send(self, number: int) -> bool:
         """Sends a signal to it. Returns whether there is anything of it."""

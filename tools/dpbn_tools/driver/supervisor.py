@@ -1,27 +1,35 @@
-"""Starts commands for the driver, and supervises each, by a process of its own that outlives the driver if need be.
+"""Starts commands for the driver, and supervises each, by a process of its own that outlives the
+driver if need be.
 
     supervisor.py SOCKET
 
-This is a fork server: it waits for requests, forks a supervisor for each, and ends with its driver. A request is a byte in the socket with
-these descriptors: the request's text, what the supervisor watches, where it reports, what the command prints to, and those that the
-supervisor keeps open. The text has these fields, each with a zero byte after it:
+This is a fork server: it waits for requests, forks a supervisor for each, and ends with its driver.
+A request is a byte in the socket with these descriptors: the request's text, what the supervisor
+watches, where it reports, what the command prints to, and those that the supervisor keeps open. The
+text has these fields, each with a zero byte after it:
 
-    COUNT of the other fields, build or helper, GRACE, FOLDER, working folder, NUMBER of words, WORD .., NAME=VALUE ..
+    COUNT of the other fields, KIND, GRACE, FOLDER, working folder, NUMBER of words, WORD ..,
+    NAME=VALUE ..
 
-The command runs in a process group of its own. When it ends, what is left of that group is killed. The command doesn't get what its
-supervisor has open, so that it can't close that.
+KIND is `build` or `helper`. The command runs in a process group of its own. When it ends, what is
+left of that group is killed. It doesn't get what its supervisor has open, so it can't close that.
 
-A build goes on without its driver. Its supervisor watches the FIFO `control` in FOLDER: as long as it runs somebody reads there, and a byte
-that is written there asks it to end the build. It keeps the file open that shows the job as begun, which is locked.
-After a build that ended with 0, the files below FOLDER/out are synced. How it ended is written into FOLDER/status, or `asked` if it was
-asked to end. FOLDER/group has the number of the command's group, and when it began by the system's clock; the command keeps that file open
-and locked. So what is left of a build is known whose supervisor was killed. The driver made both files as long as they have to be, so that
-a full disk can't keep anybody from writing them.
+A build goes on without its driver. Its supervisor watches the FIFO `control` in FOLDER: as long as
+it runs somebody reads there, and a byte that is written there asks it to end the build. It keeps
+the file open that shows the job as begun, which is locked. After a build that ended with 0, the
+files below FOLDER/out are synced. How it ended is written into FOLDER/status, or `asked` if it was
+asked to end.
+
+FOLDER/group has the number of the command's group, and how long the system ran when it began. The
+command has that file open and locked. So what is left of a build is known whose supervisor was
+killed. The driver made both files as long as they have to be: no full disk keeps anybody from
+writing them.
 
 A helper ends with its driver: its supervisor watches the end of a pipe that the driver holds.
 
-To end a group, it gets SIGTERM, and SIGKILL if there is anything left of it GRACE seconds later. The report is a line `group N` once the
-command is started, and a line like that of the status when it has ended, before anything is synced; nothing if it was ended on request."""
+To end a group, it gets SIGTERM, and SIGKILL if there is anything left of it GRACE seconds later.
+The report is a line `group N` once the command is started, and a line like that of the status when
+it has ended, before anything is synced; nothing if it was ended on request."""
 from __future__ import annotations
 
 import array
@@ -100,10 +108,15 @@ def start(request: Request) -> tuple[int, int]:
     return child, int(told) if told else 0
 
 
+def since_boot() -> float:
+    """The seconds since the system was started, with those of its sleep if the system has a clock for that."""
+    return time.clock_gettime(getattr(time, "CLOCK_BOOTTIME", time.CLOCK_MONOTONIC))
+
+
 def note_group(path: str) -> None:
     """Writes down which group this process leads, and since when. It and all that it begins keep the file open and locked."""
     number = os.open(path, os.O_RDWR | os.O_CLOEXEC)
-    os.pwrite(number, f"{os.getpid()} {time.monotonic():.1f}\n".encode(), 0)
+    os.pwrite(number, f"{os.getpid()} {since_boot():.1f}\n".encode(), 0)
     try:
         fcntl.flock(number, fcntl.LOCK_EX | fcntl.LOCK_NB)
         fcntl.fcntl(number, fcntl.F_DUPFD, KEPT)
