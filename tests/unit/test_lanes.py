@@ -359,6 +359,19 @@ def test_a_case_that_cannot_be_told(watch, monkeypatch):
     assert ((watch.folder / "ran").read_text().split(), tally.passed, tally.names) == (["quick", "late", "quick", "late"], 4, [])
 
 
+def test_what_is_inside_a_case(watch, monkeypatch):
+    """What fails in a run of many cases may be of a smaller one, which runs again in place of it."""
+    monkeypatch.setenv(PLACE, str(watch.folder / "ran"))
+
+    def many(tally):
+        noted(tally, "many")
+        with tally.inside(quick_case):
+            tally.add("quick, what", "wrong")
+    tally = ran([Part("many", many)])
+    assert ((watch.folder / "ran").read_text().split(), tally.passed, tally.names) == (["many", "quick"], 4, [])
+    assert [it.name for it in tally.only_alone] == ["quick, what"]
+
+
 def test_a_case_that_breaks_off(watch):
     """A case that breaks off is a failure, and the next one runs."""
     def breaks_off(_):
@@ -392,3 +405,7 @@ def test_the_parts_of_all_topics():
     assert [(it.kind, it.on_programs) for it in long] == [(Kind.WAITS, True)] * 2
     assert not parts["hosts, without programs"].on_programs and parts["hosts"].on_programs and not parts["jobs"].on_programs
     assert [part.name for part in run.chosen(["live"])] == ["live", "live, what is large"]
+    both = "probes and rows"
+    assert both in parts and not {"probes", "rows"} & set(parts) and not parts[both].on_programs
+    named = [[part.name for part in run.chosen(words)] for words in (["probes"], ["rows"], ["rows", "order", "probes"])]
+    assert named == [["probes"], ["rows"], ["order", both]]
