@@ -5,18 +5,18 @@ use std::fs;
 use std::io::{BufRead, Write};
 use std::test::Fail;
 
-/// What the lines of a file are answered.
-fn answered(rt: &HostRuntime, text: &[u8]) -> Result<Vec<u8>, Fail> {
+/// What the lines of a file are answered; nothing if it can't be had.
+fn answered(rt: &HostRuntime, text: &[u8]) -> Result<Option<Vec<u8>>, Fail> {
     let mut topic = None;
     let mut row = Vec::new(rt.alloc());
     let mut out = Vec::new(rt.alloc());
     for line in text.lines(rt.alloc()) {
-        let is_told = hear(rt, &mut topic, &mut row, line?, &mut out)?;
-        assert!(rt; is_told);
+        if !hear(rt, &mut topic, &mut row, line?, &mut out)? {
+            return Ok(None);
+        }
     }
     let is_told = tell(rt, topic, &mut row, &mut out)?;
-    assert!(rt; is_told);
-    Ok(out)
+    Ok(if is_told { Some(out) } else { None })
 }
 
 /// Prints a line of a name or an answer.
@@ -33,7 +33,9 @@ fn answers_files(rt: HostRuntime) -> Result<(), Fail> {
         if let Ok(text) = fs::read(&rt, name.as_str()) {
             print(&rt, "== ", name.as_str())?;
             let out = answered(&rt, text.as_slice())?;
-            for line in out.as_slice().lines(rt.alloc()) {
+            assert!(rt; out.is_some());
+            let answers = out.unwrap_or(Vec::new(rt.alloc()));
+            for line in answers.as_slice().lines(rt.alloc()) {
                 print(&rt, "", line?.as_str())?;
             }
         }
