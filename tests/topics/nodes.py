@@ -24,7 +24,7 @@ from topics.tally import PROGRAM, TESTS, TOP, Answer, Lines, Tally, built_shim, 
 
 NODES = f"{TOP}/crates/dpbn/out/dpbn"
 # how long something is waited for, in seconds, on a machine that does other things, too
-LIMIT = 300
+LIMIT = 600
 
 LISTING = "a/b.FULLPKGNAME=b-1.0\n"
 BUILDS = '{"a/b":[{"hex":"616263","name":"x"}]}\n'

@@ -14,8 +14,8 @@ import time
 from topics import packages
 from topics.tally import TOP, seen
 
-# how long something is waited for, in seconds, on a machine that does other things, too
-LIMIT = 240
+# how long something is waited for, in seconds, on a machine that does other things, too: less than what never ends by itself sleeps here
+LIMIT = 700
 # the digest of the listing
 TREE = "5a" * 32
 # what each package was built with, as a file of it
