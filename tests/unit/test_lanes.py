@@ -11,7 +11,7 @@ import time
 
 import pytest
 
-from topics import driver, network
+from topics import driver, lanes, network
 from topics.lanes import Kind, Lanes, Part
 from topics.tally import Lines, Tally, seen
 
@@ -249,6 +249,21 @@ def test_a_process_that_ends_once(watch):
     assert [it.first_line() for it in tally.only_alone] == ["its process ended with status 3"]
 
 
+def test_what_runs_too_long(watch, monkeypatch):
+    """A part that runs for too long is ended with what it started, and is a failure; the others run, and so does the gate for any time."""
+    monkeypatch.setattr(lanes, "PAUSE", 0.05)
+
+    def run(tally):
+        if not turn_of(watch, "long"):
+            process = subprocess.Popen(["sleep", "600"])
+            (watch.folder / "pid").write_text(f"{process.pid}\n")
+            process.wait()
+        tally.add("that", "")
+    tally = ran([watch.part("gate", 1, Kind.GATE, longest=0.5), Part("long", run, longest=2), watch.part("other", 3)])
+    assert (tally.passed, tally.names, [it.first_line() for it in tally.only_alone]) == (3, [], ["it ran for 2 s, and was ended then"])
+    assert until(lambda: not is_alive((watch.folder / "pid").read_text().strip()))
+
+
 def test_a_name_that_comes_twice(watch):
     """Of a name that comes twice all must pass."""
     def run(tally):
@@ -311,9 +326,9 @@ def test_networks_that_are_refused(watch, monkeypatch, why):
     gate = Lanes(Tally(), [watch.part("gate", kind=Kind.GATE)], 4)
     gate.run()
     assert (gate.tally.passed, gate.shared, (watch.folder / "asked").exists()) == (1, "", False)
-    lanes = Lanes(Tally(), [watch.part("one"), watch.part("two")], 4)
-    lanes.run()
-    assert (lanes.tally.passed, lanes.shared, (watch.folder / "asked").exists()) == (2, why, True)
+    both = Lanes(Tally(), [watch.part("one"), watch.part("two")], 4)
+    both.run()
+    assert (both.tally.passed, both.shared, (watch.folder / "asked").exists()) == (2, why, True)
 
 
 PLACE = "PLACE_OF_CASES"
