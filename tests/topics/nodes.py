@@ -642,7 +642,7 @@ def that_listen(folder, members, words):
             return run, where
         told = [ended(node) for node in run]
         lay_logs(folder)
-    raise OSError(f"{TRIES} times a node of {members} didn't listen: {where}, {told}")
+    raise OSError(f"{TRIES} times a node of {[*members]} didn't listen: {where}, {told}")
 
 
 def noise(tally):
