@@ -54,6 +54,11 @@ def answer(text):
     return ANSWERED[text]
 
 
+def is_current():
+    """Whether the program that is built answers."""
+    return sources.is_current("probes")
+
+
 def how():
     """How it answers."""
     return "by the program that is built" if sources.is_current("probes") else "by its sources, without a proof"

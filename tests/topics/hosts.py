@@ -25,7 +25,7 @@ from dpbn_tools import host, host_ends, hosts, hosts_file, hosts_status, log_cop
 PLAYED = f"{TESTS}/played-dpbn" if "PLAYED" in os.environ else None
 NAMES = ("oak", "elm", "fir")
 # how long something is waited for, in seconds, on a machine that does other things, too
-LIMIT = 300
+LIMIT = 500
 TOOLS = ("build-jobs", "dpbn-host", "dpbn-hosts", "dpbn-report", "make-listing", "order-listing", "unpack-log", "why-ignored")
 
 # each large file is at two hosts before its build is handed in

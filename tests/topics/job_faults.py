@@ -103,7 +103,7 @@ def lines_that_nobody_reads(tally):
 
 def a_large_answer(tally):
     """While a large file is hashed other jobs begin at once, and the store has them without a copy."""
-    script = 'd="$OUT/$(echo $PKGPATH | tr / :)"; mkdir "$d"; if [ $PKGPATH = a/big ]; then dd if=/dev/null of="$d/core" bs=1 seek=2147483648 2>/dev/null; fi; echo > "$TOP/over.$(basename $PKGPATH)"'
+    script = 'd="$OUT/$(echo $PKGPATH | tr / :)"; mkdir "$d"; if [ $PKGPATH = a/big ]; then dd if=/dev/null of="$d/core" bs=1 seek=1073741824 2>/dev/null; fi; echo > "$TOP/over.$(basename $PKGPATH)"'
     with laid(script, "-j", "2", "--digests", "1000000") as (node, driver):
         big = node.post("a/big")
         until(lambda: has_text(f"{node.folder}/over.big"))

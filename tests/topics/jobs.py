@@ -497,7 +497,7 @@ def unit_tests(tally):
             continue
         # where the modules of the tests are found
         more = {lanes: f"{TESTS}:{TOP}/tools", "soak_parts": f"{TESTS}:{TOP}/bench"}.get(words[-1])
-        done = subprocess.run([found, *words], cwd=TOP, capture_output=True, text=True, timeout=600, env={**os.environ, **({"MYPYPATH": more} if more else {})})
+        done = subprocess.run([found, *words], cwd=TOP, capture_output=True, text=True, timeout=1800, env={**os.environ, **({"MYPYPATH": more} if more else {})})
         tally.add(f"{name} on {what}", "" if done.returncode == 0 else (done.stdout + done.stderr)[-3000:])
 
 

@@ -20,6 +20,8 @@ from topics.tally import Case, Tally, name_of
 FORK = multiprocessing.get_context("fork")
 # how many tests are named in one line
 MOST_NAMED = 12
+# how long a part but the gate may run, and how often that is looked at, in seconds
+LONGEST, PAUSE = 5400, 5
 # how long a part that is stopped may take to end what it started, in seconds
 GRACE = 20
 
@@ -46,6 +48,8 @@ class Part:
     on_programs: bool = True
     # of two parts of a kind the one with the lower rank begins first
     rank: int = 0
+    # how long it may run, in seconds, unless it is the gate
+    longest: float = LONGEST
 
 
 class Told(NamedTuple):
@@ -102,6 +106,7 @@ class Running:
 
     def __init__(self, part: Part, is_kept: bool) -> None:
         self.part, self.out = part, tempfile.TemporaryFile() if is_kept else None
+        self.began, self.was_late = time.monotonic(), False
         self.told, tells = FORK.Pipe(duplex=False)
         self.process = FORK.Process(target=work, args=(part, self.out, tells))
         # else the process would print it once more
@@ -116,9 +121,17 @@ class Running:
         except EOFError:
             told = Told(Tally(), "", 0, 0, {})
         self.process.join()
-        if self.process.exitcode:
+        if self.was_late:
+            told.tally.add(self.part.name, f"it ran for {self.part.longest:.0f} s, and was ended then")
+        elif self.process.exitcode:
             told.tally.add(self.part.name, f"its process ended with status {self.process.exitcode}")
         return told
+
+    def end_if_late(self) -> None:
+        """Ends it if it runs for too long."""
+        if self.part.kind != Kind.GATE and time.monotonic() > self.began + self.part.longest:
+            self.was_late = True
+            self.stop()
 
     def printed(self) -> str:
         """What it printed, unless that was shown at once."""
@@ -202,6 +215,15 @@ class Lanes:
             self.tally.take(tally)
             print(text, end="", flush=True)
 
+    def ending(self) -> List[Running]:
+        """Waits for parts that end, and returns them. Those that run for too long are ended."""
+        while True:
+            ended = wait([it.told for it in self.running], PAUSE)
+            if ended:
+                return [it for it in self.running if it.told in ended]
+            for one in self.running:
+                one.end_if_late()
+
     def run_again(self) -> None:
         """Runs what failed once more, by itself: the cases, or the whole part, if a failure is in no case."""
         for part, first in self.failing:
@@ -210,6 +232,7 @@ class Lanes:
             print(f"tests/run: {what}: it runs again by itself, since this failed: {some_of(first.names)}", flush=True)
             one = Running(part if cases is None else dataclasses.replace(part, run=functools.partial(run_cases, cases)), is_kept=False)
             self.running = [one]
+            self.ending()
             told = one.ended()
             self.running = []
             left = self.tally.correct(first, told.tally)
@@ -220,8 +243,7 @@ class Lanes:
         try:
             self.begin()
             while self.running:
-                ended = wait([it.told for it in self.running])
-                for one in [it for it in self.running if it.told in ended]:
+                for one in self.ending():
                     self.end(one)
                 self.show()
                 self.begin()

@@ -26,8 +26,8 @@ LIVE = f"{TESTS}/live"
 OFFER, PROMISE, PROPOSAL, VOTE, ASK = 1, 2, 3, 4, 6
 NOTICE = b"DPBT"
 LINE = re.compile(rb"node (\d): I=(\d+) B=(\d+) Q=(\d+) T=(\d+) !=(\d+)")
-# how long something is waited for, in seconds
-LIMIT = 300
+# how long something is waited for, in seconds: less than a unit is left to another host if nothing is said (--takeover)
+LIMIT = 500
 # how much more memory a long run may have at its end than after its first part, in kB: of what is kept to be used again some
 # pages more may have been touched
 SPARE = 64

@@ -24,7 +24,7 @@ from topics.tally import PROGRAM, TESTS, TOP, Answer, Lines, Tally, built_shim, 
 
 NODES = f"{TOP}/crates/dpbn/out/dpbn"
 # how long something is waited for, in seconds, on a machine that does other things, too
-LIMIT = 300
+LIMIT = 600
 
 LISTING = "a/b.FULLPKGNAME=b-1.0\n"
 BUILDS = '{"a/b":[{"hex":"616263","name":"x"}]}\n'
@@ -642,7 +642,7 @@ def that_listen(folder, members, words):
             return run, where
         told = [ended(node) for node in run]
         lay_logs(folder)
-    raise OSError(f"{TRIES} times a node of {members} didn't listen: {where}, {told}")
+    raise OSError(f"{TRIES} times a node of {[*members]} didn't listen: {where}, {told}")
 
 
 def noise(tally):

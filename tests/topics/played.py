@@ -14,8 +14,8 @@ import time
 from topics import packages
 from topics.tally import TOP, seen
 
-# how long something is waited for, in seconds, on a machine that does other things, too
-LIMIT = 240
+# how long something is waited for, in seconds, on a machine that does other things, too: less than what never ends by itself sleeps here
+LIMIT = 700
 # the digest of the listing
 TREE = "5a" * 32
 # what each package was built with, as a file of it
@@ -48,6 +48,12 @@ class Node:
         for part in ("jobs", "done", "failed"):
             os.makedirs(f"{self.work}/{part}")
         self.posted, self.held = {}, {}
+        # the drivers that were started for it
+        self.drivers = []
+
+    def is_left(self):
+        """Whether all its drivers have ended, so that nothing is handed in any more."""
+        return bool(self.drivers) and all(it.poll() is not None for it in self.drivers)
 
     def open(self):
         with open(self.log, "xb") as file:
@@ -90,7 +96,7 @@ class Node:
 
     def take(self, name, seconds=LIMIT):
         """Waits for what is handed in under a name, and holds it."""
-        if not until(lambda: os.path.exists(f"{self.work}/done/{name}"), seconds):
+        if not until_left(lambda: os.path.exists(f"{self.work}/done/{name}"), self.is_left, seconds):
             return {}
         unit, _, built, run = self.posted[name]
         files = self.files(name)
@@ -99,7 +105,7 @@ class Node:
 
     def failed(self, name, seconds=LIMIT):
         """Waits for the mark that a build failed, and returns what it says."""
-        return until(lambda: os.path.exists(f"{self.work}/failed/{name}"), seconds) and read(f"{self.work}/failed/{name}")
+        return until_left(lambda: os.path.exists(f"{self.work}/failed/{name}"), self.is_left, seconds) and read(f"{self.work}/failed/{name}")
 
     def is_forgotten(self, name):
         return until(lambda: not any(os.path.exists(f"{self.work}/{part}/{name}") for part in ("jobs", "done", "failed")))
@@ -115,6 +121,12 @@ def until(holds, seconds=LIMIT):
     end = time.monotonic() + seconds
     while not holds() and time.monotonic() < end:
         time.sleep(0.02)
+    return holds()
+
+
+def until_left(holds, is_left, seconds=LIMIT):
+    """Waits until something holds, or can't be any more, and returns whether it does."""
+    until(lambda: holds() or is_left(), seconds)
     return holds()
 
 
@@ -142,13 +154,14 @@ class Driver:
             self.process = subprocess.Popen([f"{TOP}/tools/build-jobs", *words, node.work, node.log, "--", "sh", "-c", script, *more],
                                             stdin=subprocess.DEVNULL, stdout=own if out is None else out, stderr=own,
                                             env={**os.environ, "TOP": node.folder, **(env or {})})
+        node.drivers.append(self.process)
 
     def lines(self):
         """What it printed, without the times."""
         return lines_of(self.out)
 
     def tells(self, line, seconds=LIMIT):
-        return until(lambda: any(re.fullmatch(line, told) for told in self.lines()), seconds)
+        return until_left(lambda: any(re.fullmatch(line, told) for told in self.lines()), lambda: self.process.poll() is not None, seconds)
 
     def begun(self, unit=""):
         """How many builds began, or of this unit."""

@@ -1,8 +1,9 @@
 """Stored rows: what the driver `probes` answers on paths, names, trees, records, builds, datagrams, notes, members, nodes, traces, BUILDS,
 worlds and texts. A file of tests/probes/ has the rows of one topic, and the file next to it that ends in `.stdout` the answers."""
+import functools
 import os
 
-from topics import driver
+from topics import driver, rows
 from topics.tally import TESTS, contents, text_difference
 
 STORED = f"{TESTS}/probes"
@@ -13,12 +14,12 @@ def names():
     return sorted(it for it in os.listdir(STORED) if not it.endswith(".stdout"))
 
 
-def rows():
+def asked():
     """The rows of each topic."""
     return [contents(f"{STORED}/{name}") for name in names()]
 
 
-driver.ask(rows)
+driver.ask(asked)
 
 
 def case(tally, _kind, name):
@@ -29,6 +30,13 @@ def case(tally, _kind, name):
 
 def run(tally):
     for name in names():
-        tally.run(f"probes/{name}", case, "probes", name)
-    count = sum(text.count(b"\n") for text in rows())
+        tally.case(functools.partial(case, _kind="probes", name=name))
+    count = sum(text.count(b"\n") for text in asked())
     print(f"tests/run: probes: {count:,} lines of rows were answered {driver.how()}", flush=True)
+
+
+def run_with_rows(tally):
+    """This topic and the topic `rows` by one compilation, since most of the time goes into the crates below both. A driver that is built
+    isn't compiled."""
+    rows.run(tally, () if driver.is_current() else asked())
+    run(tally)

@@ -48,7 +48,8 @@ def browse_once(url, *more):
             os.killpg(process.pid, signal.SIGKILL)
         process.wait()
         shutil.rmtree(profile, ignore_errors=True)
-    return out.decode(), re.findall(r"CONSOLE.*", said.decode(errors="replace"))
+    # the browser's own pages say something, too, if the machine is busy
+    return out.decode(), [line for line in re.findall(r"CONSOLE.*", said.decode(errors="replace")) if "source: chrome://" not in line]
 
 
 class Texts(html.parser.HTMLParser):

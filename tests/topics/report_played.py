@@ -17,7 +17,7 @@ from dpbn_tools import listings  # noqa: E402
 
 TOOL = f"{TOP}/tools/dpbn-report"
 # how long a call may take on a machine that does other things, too
-LIMIT = 240
+LIMIT = 700
 
 
 LISTING = """base/a.FULLPKGNAME=a-1

@@ -16,6 +16,7 @@ from topics import played
 from topics.nodes import beside
 from topics.tally import TESTS, TOP, contents
 
+# how long something is waited for, in seconds: less than what never ends by itself sleeps here
 LIMIT = 300
 # how long something may go on running on the host, in seconds, and what a loaded machine may take in addition
 MOST, MORE = 10, 10

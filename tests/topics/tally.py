@@ -1,4 +1,5 @@
 """What the topics share: where things are, how the program is run, and what passed, failed and was skipped."""
+import contextlib
 import difflib
 import os
 import pickle
@@ -130,9 +131,15 @@ class Tally:
 
     def case(self, one: Case) -> None:
         """Runs a case, which may run once more by itself. One that breaks off is a failure, and the next one runs."""
+        with self.inside(one):
+            self.run(name_of(one), one)
+
+    @contextlib.contextmanager
+    def inside(self, one: Case) -> Iterator[None]:
+        """What is added meanwhile is of this case: it runs again if that fails."""
         outer, self.current = self.current, one if is_sent(one) else None
         try:
-            self.run(name_of(one), one)
+            yield
         finally:
             self.current = outer
 

@@ -565,8 +565,11 @@ def test_a_helper_ends_with_its_driver(tmp_path):
     while not command.poll() and time.monotonic() < end:
         time.sleep(0.02)
     assert command.poll() and not command.has_succeeded()
+    # somebody has to ask for its status before it is gone
     with pytest.raises(ProcessLookupError):
-        os.kill(int((tmp_path / "pid").read_text()), 0)
+        for _ in range(2400):
+            os.kill(int((tmp_path / "pid").read_text()), 0)
+            time.sleep(0.05)
 
 
 def test_a_command_that_has_ended_leaves_no_descriptor(server):

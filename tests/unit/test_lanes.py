@@ -11,7 +11,7 @@ import time
 
 import pytest
 
-from topics import driver, network
+from topics import driver, lanes, network
 from topics.lanes import Kind, Lanes, Part
 from topics.tally import Lines, Tally, seen
 
@@ -249,6 +249,21 @@ def test_a_process_that_ends_once(watch):
     assert [it.first_line() for it in tally.only_alone] == ["its process ended with status 3"]
 
 
+def test_what_runs_too_long(watch, monkeypatch):
+    """A part that runs for too long is ended with what it started, and is a failure; the others run, and so does the gate for any time."""
+    monkeypatch.setattr(lanes, "PAUSE", 0.05)
+
+    def run(tally):
+        if not turn_of(watch, "long"):
+            process = subprocess.Popen(["sleep", "600"])
+            (watch.folder / "pid").write_text(f"{process.pid}\n")
+            process.wait()
+        tally.add("that", "")
+    tally = ran([watch.part("gate", 1, Kind.GATE, longest=0.5), Part("long", run, longest=2), watch.part("other", 3)])
+    assert (tally.passed, tally.names, [it.first_line() for it in tally.only_alone]) == (3, [], ["it ran for 2 s, and was ended then"])
+    assert until(lambda: not is_alive((watch.folder / "pid").read_text().strip()))
+
+
 def test_a_name_that_comes_twice(watch):
     """Of a name that comes twice all must pass."""
     def run(tally):
@@ -311,9 +326,9 @@ def test_networks_that_are_refused(watch, monkeypatch, why):
     gate = Lanes(Tally(), [watch.part("gate", kind=Kind.GATE)], 4)
     gate.run()
     assert (gate.tally.passed, gate.shared, (watch.folder / "asked").exists()) == (1, "", False)
-    lanes = Lanes(Tally(), [watch.part("one"), watch.part("two")], 4)
-    lanes.run()
-    assert (lanes.tally.passed, lanes.shared, (watch.folder / "asked").exists()) == (2, why, True)
+    both = Lanes(Tally(), [watch.part("one"), watch.part("two")], 4)
+    both.run()
+    assert (both.tally.passed, both.shared, (watch.folder / "asked").exists()) == (2, why, True)
 
 
 PLACE = "PLACE_OF_CASES"
@@ -359,6 +374,19 @@ def test_a_case_that_cannot_be_told(watch, monkeypatch):
     assert ((watch.folder / "ran").read_text().split(), tally.passed, tally.names) == (["quick", "late", "quick", "late"], 4, [])
 
 
+def test_what_is_inside_a_case(watch, monkeypatch):
+    """What fails in a run of many cases may be of a smaller one, which runs again in place of it."""
+    monkeypatch.setenv(PLACE, str(watch.folder / "ran"))
+
+    def many(tally):
+        noted(tally, "many")
+        with tally.inside(quick_case):
+            tally.add("quick, what", "wrong")
+    tally = ran([Part("many", many)])
+    assert ((watch.folder / "ran").read_text().split(), tally.passed, tally.names) == (["many", "quick"], 4, [])
+    assert [it.name for it in tally.only_alone] == ["quick, what"]
+
+
 def test_a_case_that_breaks_off(watch):
     """A case that breaks off is a failure, and the next one runs."""
     def breaks_off(_):
@@ -392,3 +420,7 @@ def test_the_parts_of_all_topics():
     assert [(it.kind, it.on_programs) for it in long] == [(Kind.WAITS, True)] * 2
     assert not parts["hosts, without programs"].on_programs and parts["hosts"].on_programs and not parts["jobs"].on_programs
     assert [part.name for part in run.chosen(["live"])] == ["live", "live, what is large"]
+    both = "probes and rows"
+    assert both in parts and not {"probes", "rows"} & set(parts) and not parts[both].on_programs
+    named = [[part.name for part in run.chosen(words)] for words in (["probes"], ["rows"], ["rows", "order", "probes"])]
+    assert named == [["probes"], ["rows"], ["order", both]]

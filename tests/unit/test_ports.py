@@ -9,7 +9,7 @@ FORK = multiprocessing.get_context("fork")
 def given(told, is_over):
     """Gets ports, and keeps them until the test is over."""
     told.put([nodes.free_ports(1 + number % 9) for number in range(50)])
-    is_over.wait(60)
+    is_over.wait(240)
 
 
 def test_processes_at_one_time():
@@ -21,7 +21,7 @@ def test_processes_at_one_time():
     bases = [base for _ in processes for base in told.get(timeout=240)]
     is_over.set()
     for process in processes:
-        process.join(60)
+        process.join(240)
     assert len(bases) == len(set(bases)) == 150
 
 

@@ -108,7 +108,7 @@ class Driver:
     def look(self) -> None:
         """What is there, what is over, and what may begin. What the system refuses is reported, and tried again in a while."""
         self.guarded("lock", self.work.check)
-        self.tasks.look()
+        self.guarded("tasks", self.tasks.look)
         self.guarded("log", self.look_at_log)
         self.guarded("store", self.store.look)
         self.guarded("fetches", self.fetches.look)

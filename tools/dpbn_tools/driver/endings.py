@@ -123,9 +123,7 @@ class Endings:
 
     def handed_in(self, build: Build) -> None:
         unit = str(build.job)
-        if build.dropped:
-            # its job went meanwhile, and with it what has its name
-            self.steps.work.remove(f"done/{build.job.name}")
+        self.take_back(build, "done")
         if build.is_reused:
             self.counts["taken from earlier runs"] += 1
             self.lines.tell(f"< {unit} {time.monotonic() - build.over:.0f} s, from an earlier run")
@@ -137,6 +135,15 @@ class Endings:
             for large in large_in(build.made or {}).values():
                 self.pushes.forget(large)
         self.leave(build, self.keep)
+
+    def take_back(self, build: Build, part: str) -> None:
+        """If its job went meanwhile, removes what has its name. If the system refuses that, it stays: it says nothing wrong of the job."""
+        if not build.dropped:
+            return
+        try:
+            self.steps.work.remove(f"{part}/{build.job.name}")
+        except OSError as error:
+            self.lines.tell_once(f"? {build.job} is dropped, and what it handed in stays: {error}", ("back", part, error.errno))
 
     def keep(self, build: Build) -> None:
         """Writes down how long it took, and keeps it for later runs."""
@@ -150,8 +157,7 @@ class Endings:
         where: List[str] = []
 
         def marked() -> None:
-            if build.dropped:
-                self.steps.work.remove(f"failed/{build.job.name}")
+            self.take_back(build, "failed")
             self.counts["failed"] += 1
             self.health.unit_ended(str(build.job), False)
             self.lines.tell(f"! {build.job} failed after {build.seconds():.0f} s: {build.failed}, see {where[-1]}")
