@@ -834,9 +834,7 @@ def ten_steps(tally):
 
 
 def run_without_programs(tally):
-    for one in (good_file, bad_files, words, pages, ends, spans, copies):
-        one(tally)
-    for one in (other_runs, lost_logs, alone, services):
+    for one in (good_file, bad_files, words, pages, ends, spans, copies, other_runs, lost_logs, alone, services):
         tally.case(one)
 
 

@@ -6,6 +6,7 @@ import re
 import shutil
 import signal
 import subprocess
+import sys
 import tempfile
 import time
 
@@ -14,6 +15,10 @@ from topics.nodes import beside
 from topics.played import (BUILD, LIMIT, SLOW, TREE, WRITE, Driver, Node, add, has_text, is_alive, laid, name_of, read, until,
                            without_seconds)
 from topics.tally import TESTS, TOP
+
+sys.path.insert(0, f"{TOP}/tools")
+
+from dpbn_tools.driver import endings  # noqa: E402
 
 
 def chain(tally):
@@ -236,14 +241,8 @@ def what_the_system_refuses(tally):
         add(tally, "a log that can't be written", told and until(lambda: os.listdir(f"{node.work}/build") == []), driver.lines())
         os.rename(f"{node.work}/elsewhere/logs", f"{node.work}/logs")
         add(tally, "the same once it can", bool(node.take(name)), driver.lines())
-    with laid(SLOW, *PATIENT) as (node, driver):
-        name = node.post("a/b")
-        until(lambda: has_text(f"{node.folder}/pid"))
-        os.kill(int(read(f"{node.folder}/pid")), signal.SIGTERM)
-        time.sleep(0.3)
-        ended = driver.end()
-        left = os.listdir(f"{node.work}/failed"), os.listdir(f"{node.work}/jobs"), os.listdir(f"{node.work}/build")
-        add(tally, "a build that is ended just before it", (ended, left) == (143, ([], [name], [])), (ended, left, driver.lines()))
+    if not any(ended_just_before(tally) for _ in range(20)):
+        add(tally, "a build that is ended just before it", False, "this machine is too busy")
     with laid(SLOW, *PATIENT) as (node, driver):
         node.post("a/b")
         until(lambda: has_text(f"{node.folder}/pid"))
@@ -252,6 +251,25 @@ def what_the_system_refuses(tally):
         status = driver.process.wait(LIMIT)
         told = status, driver.lines()[-1], is_alive(node.folder, "pid")
         add(tally, "a work folder that was made anew", told == (1, f"build-jobs: {node.work} was taken away, or made anew", False), told)
+
+
+def ended_just_before(tally):
+    """Ends a build, and its driver a moment later, as a host that stops does. Returns whether it was a moment: on a busy machine the driver
+    may have reported the build before."""
+    with laid(SLOW, *PATIENT) as (node, driver):
+        name = node.post("a/b")
+        until(lambda: has_text(f"{node.folder}/pid"))
+        began = time.monotonic()
+        os.kill(int(read(f"{node.folder}/pid")), signal.SIGTERM)
+        time.sleep(0.3)
+        driver.process.send_signal(signal.SIGTERM)
+        was_late = time.monotonic() - began > 0.75 * endings.MOMENT
+        ended = driver.end()
+        left = os.listdir(f"{node.work}/failed"), os.listdir(f"{node.work}/jobs"), os.listdir(f"{node.work}/build")
+        right = (ended, left) == (143, ([], [name], []))
+        if right or not was_late:
+            add(tally, "a build that is ended just before it", right, (ended, left, driver.lines()))
+        return right or not was_late
 
 
 def what_is_no_job(tally):
@@ -464,20 +482,21 @@ def unit_tests(tally):
     """The parts of the tools one by one, and their types and style and those of what runs the tests, as far as the programs for that are here."""
     typed = ["--strict", "--cache-dir", os.devnull]
     style = ["--max-line-length", "140"]
-    tools, tests = f"{TOP}/tools/dpbn_tools", f"{TESTS}/topics/lanes.py"
+    tools, lanes = f"{TOP}/tools/dpbn_tools", "topics.lanes"
+    styled = [f"{TESTS}/run", *(f"{TESTS}/topics/{name}.py" for name in ("lanes", "network", "tally"))]
     for name, what, words in (("pytest", "the tools", ["-q", "-p", "no:cacheprovider", f"{TESTS}/unit"]),
                               ("mypy", "the tools", [*typed, "--python-version", "3.8", tools]),
-                              ("mypy", "the tests' lanes", [*typed, "--python-version", "3.9", "--follow-imports", "silent", tests]),
+                              ("mypy", "the tests' lanes", [*typed, "--python-version", "3.9", "--follow-imports", "silent", "-m", "topics.network", "-m", lanes]),
                               ("mypy", "tests/soak", [*typed, "--python-version", "3.8", "--follow-imports", "silent", "-p", "soak_parts"]),
                               ("flake8", "the tools", [*style, tools, f"{TOP}/tools/build-jobs", f"{TOP}/tools/make-builds"]),
-                              ("flake8", "the tests' lanes", [*style, tests, f"{TESTS}/run"]),
+                              ("flake8", "the tests' lanes", [*style, *styled]),
                               ("flake8", "tests/soak", [*style, f"{TESTS}/soak", f"{TESTS}/soak_parts"])):
         found = next((path for path in map(shutil.which, (f"/usr/bin/{name}", name, f"{name}-3")) if path), None)
         if not found:
             tally.skip(f"{name} on {what}", f"there is no {name} here")
             continue
         # where the modules of the tests are found
-        more = {tests: f"{TESTS}:{TOP}/tools", "soak_parts": f"{TESTS}:{TOP}/bench"}.get(words[-1])
+        more = {lanes: f"{TESTS}:{TOP}/tools", "soak_parts": f"{TESTS}:{TOP}/bench"}.get(words[-1])
         done = subprocess.run([found, *words], cwd=TOP, capture_output=True, text=True, timeout=600, env={**os.environ, **({"MYPYPATH": more} if more else {})})
         tally.add(f"{name} on {what}", "" if done.returncode == 0 else (done.stdout + done.stderr)[-3000:])
 

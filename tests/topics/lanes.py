@@ -14,10 +14,12 @@ import time
 from multiprocessing.connection import Connection, wait
 from typing import IO, Callable, Dict, List, NamedTuple, Optional, Tuple
 
-from topics import driver
+from topics import driver, network
 from topics.tally import Case, Tally, name_of
 
 FORK = multiprocessing.get_context("fork")
+# how many tests are named in one line
+MOST_NAMED = 12
 # how long a part that is stopped may take to end what it started, in seconds
 GRACE = 20
 
@@ -50,6 +52,8 @@ class Told(NamedTuple):
     """What the process of a part sends at its end."""
 
     tally: Tally
+    # why it had no network of its own, if it had none
+    shared: str
     seconds: float
     processor: float
     # what the driver of tests answered, so that later parts needn't compile it again
@@ -68,22 +72,29 @@ def processor_seconds() -> float:
 
 
 def work(part: Part, out: Optional[IO[bytes]], tells: Connection) -> None:
-    """What the process of a part does; what it prints goes into the file, if there is one. What it starts is in its process group."""
+    """What the process of a part does; what it prints goes into the file, if there is one. What it starts is in its process group, and
+    in its network, if the system gives it one."""
     os.setpgrp()
     signal.signal(signal.SIGTERM, lambda *_: sys.exit(128 + signal.SIGTERM))
     if out:
         for stream in (1, 2):
             os.dup2(out.fileno(), stream)
         sys.stdout = open(1, "w", closefd=False, errors="backslashreplace")
+    shared = network.separate() if part.kind != Kind.GATE else ""
     tally, began = Tally(), time.monotonic()
     tally.run(part.name, part.run)
-    tells.send(Told(tally, time.monotonic() - began, processor_seconds(), driver.ANSWERED))
+    tells.send(Told(tally, shared, time.monotonic() - began, processor_seconds(), driver.ANSWERED))
 
 
 def run_cases(cases: List[Case], tally: Tally) -> None:
     """Some cases of a part, one after the other."""
     for one in cases:
         tally.case(one)
+
+
+def some_of(names: List[str]) -> str:
+    """The names, or how many there are and the first ones."""
+    return ", ".join(names) if len(names) <= MOST_NAMED else f"{', '.join(names[:MOST_NAMED])} and {len(names) - MOST_NAMED} more"
 
 
 class Running:
@@ -103,7 +114,7 @@ class Running:
         try:
             told: Told = self.told.recv()
         except EOFError:
-            told = Told(Tally(), 0, 0, {})
+            told = Told(Tally(), "", 0, 0, {})
         self.process.join()
         if self.process.exitcode:
             told.tally.add(self.part.name, f"its process ended with status {self.process.exitcode}")
@@ -136,8 +147,10 @@ class Lanes:
         self.running: List[Running] = []
         # of the parts that ended what they counted, and what is to be printed
         self.results: Dict[Part, Tuple[Tally, str]] = {}
-        # parts in which checks of time failed, with what they counted
-        self.late: List[Tuple[Part, Tally]] = []
+        # parts in which something failed, with what they counted
+        self.failing: List[Tuple[Part, Tally]] = []
+        # why parts had no network of their own
+        self.shared = ""
 
     def runs(self, kind: Kind) -> int:
         """How many parts of a kind run."""
@@ -168,8 +181,9 @@ class Lanes:
         """Takes the results of a part that has ended."""
         told = one.ended()
         self.running.remove(one)
-        if told.tally.late():
-            self.late.append((one.part, told.tally))
+        if told.tally.failed and one.part.kind != Kind.GATE:
+            self.failing.append((one.part, told.tally))
+        self.shared = self.shared or told.shared
         driver.ANSWERED.update(told.answered)
         counts = f"{told.tally.passed} passed, {told.tally.failed} failed"
         took = f"{told.seconds:.0f} s, {told.processor:.0f} s of processor"
@@ -188,19 +202,18 @@ class Lanes:
             self.tally.take(tally)
             print(text, end="", flush=True)
 
-    def measure_again(self) -> None:
-        """Runs what checks of time failed in once more, by itself: their cases, or the whole part, if one of them is in no case."""
-        for part, first in self.late:
-            cases = first.late_cases()
+    def run_again(self) -> None:
+        """Runs what failed once more, by itself: the cases, or the whole part, if a failure is in no case."""
+        for part, first in self.failing:
+            cases = first.failing_cases()
             what = part.name if cases is None else f"of {part.name}, {', '.join(map(name_of, cases))}"
-            print(f"tests/run: {what}: it runs again by itself, for its checks of time: {', '.join(first.late())}", flush=True)
+            print(f"tests/run: {what}: it runs again by itself, since this failed: {some_of(first.names)}", flush=True)
             one = Running(part if cases is None else dataclasses.replace(part, run=functools.partial(run_cases, cases)), is_kept=False)
             self.running = [one]
             told = one.ended()
             self.running = []
-            self.tally.correct(first, told.tally)
-            left = [name for name in first.late() if not told.tally.timed.get(name)]
-            print(f"tests/run: {part.name}, again: {'failed again: ' + ', '.join(left) if left else 'they passed'}", flush=True)
+            left = self.tally.correct(first, told.tally)
+            print(f"tests/run: {part.name}, again: {f'failed: {some_of(left)}' if left else 'it passed'}", flush=True)
 
     def run(self) -> None:
         """Runs all parts to their ends."""
@@ -212,7 +225,7 @@ class Lanes:
                     self.end(one)
                 self.show()
                 self.begin()
-            self.measure_again()
+            self.run_again()
         finally:
             for one in self.running:
                 one.stop()

@@ -888,19 +888,19 @@ def failed_everywhere(tally, units=12, rest=20):
 
 def restarted_last(tally):
     """A node is killed while it has the job of its own unit, and started again when the others hold all else: it takes its answer, without a
-    wait for `--takeover`."""
+    wait for `--takeover`, which is longer than anything is waited for here."""
     with several("".join(f"a/{it}.FULLPKGNAME={it}-1\n" for it in "abc"), "work-0", "work-1", "work-2") as hosts:
         for host in hosts:
             host.start_node()
-        are_posted = until(lambda: all(len(host.jobs()) == 1 for host in hosts), 60)
+        are_posted = until(lambda: all(len(host.jobs()) == 1 for host in hosts))
         second, others = hosts[1], (hosts[0], hosts[2])
         second.kill("node")
         for host in hosts:
             for unit, job in host.jobs().items():
                 host.hand_in("done", job, json.dumps({unit: []}).encode())
-        are_held = until(lambda: all(held(host) == 2 for host in others), 60)
+        are_held = until(lambda: all(held(host) == 2 for host in others))
         second.start_node("--continue")
-        is_held = until(lambda: all(held(host) == 3 for host in hosts), 60)
+        is_held = until(lambda: all(held(host) == 3 for host in hosts))
         told = are_posted, are_held, is_held, [held(host) for host in hosts]
         check(tally, "a node that lacks no more than its own unit", are_posted and are_held and is_held, told, [host.lines()[-3:] for host in hosts])
 
@@ -1044,9 +1044,10 @@ def came(ears):
 
 
 def came_within(ears, seconds):
-    """The kinds of the datagrams that come at each of these sockets in this time. And the most that may come of what is sent once a second,
-    though this process or the node is late."""
+    """The kinds of the datagrams that come at each of these sockets in this time, and not before it. And the most that may come of what is
+    sent once a second, though this process or the node is late."""
     began = time.monotonic()
+    came(ears)
     time.sleep(seconds)
     kinds = came(ears)
     return kinds, time.monotonic() - began + 2
@@ -1064,7 +1065,6 @@ def quiet(tally):
         came(ears)
         until(lambda: any(came(ears)))
         # now a question was asked
-        came(ears)
         kinds, most = came_within(ears, 5)
         right = failed and all(len(it) <= most and set(it) <= {ASK} for it in kinds)
         check(tally, "a node that waits, what it sends", right, kinds, last_of(host))
@@ -1085,7 +1085,6 @@ def unanswered(tally):
         ears = [stack.enter_context(taken(port, address)) for address, port in host.places[1:]]
         claimed = until(lambda: OFFER in {kind for kinds in came(ears) for kind in kinds})
         time.sleep(0.5)
-        came(ears)
         kinds, most = came_within(ears, 4)
         right = claimed and all(it.count(OFFER) <= most and it.count(ASK) <= most and set(it) <= {OFFER, ASK} for it in kinds)
         check(tally, f"{name}, what it sends in four seconds", right, kinds, last_of(host))
@@ -1102,14 +1101,13 @@ def voted_by_nobody(tally):
         put(f"{folder}/builds", b"{}\n")
         try:
             other = nodes.started(folder, 1, [*host.peers, "--turns", "1000000"])
-            host.start_node("--rest", "10", "--takeover", "1")
+            host.start_node("--rest", "20", "--takeover", "1")
             job = host.job("a/b")
             nodes.ended(other)
             with taken(host.places[1][1]) as ear:
                 host.hand_in("done", job, b'{"a/b":[]}')
                 until(lambda: PROPOSAL in came([ear])[0])
                 time.sleep(0.5)
-                came([ear])
                 (kinds,), most = came_within([ear], 2)
                 check(tally, f"{name}, what it sends in two seconds", kinds.count(PROPOSAL) <= most and len(kinds) <= 2 * most, kinds)
                 check(tally, f"{name}, how often it offers it", PROPOSAL in kinds, kinds, timed=True)

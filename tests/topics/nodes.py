@@ -42,6 +42,8 @@ def node_line(me, i=0, q=0):
 BASES = iter(random.sample(range(20_000, 32_000, 10), 1_200))
 # sockets at the tenth, as long as this process runs, so that no other process of tests is given these ports
 GIVEN = []
+# how often something is tried with other ports, since somebody else may take the first ones before they are used
+TRIES = 5
 # a folder in memory, where the system has one
 MEMORY = "/dev/shm" if os.path.isdir("/dev/shm") else None
 ALL = node_line(0, i=1) + node_line(1, i=1) + node_line(2, i=1)
@@ -106,6 +108,15 @@ def free_ports(count):
     raise OSError("no ports are free")
 
 
+def heard(ear, what, seconds=LIMIT):
+    """The next datagram that arrives there. If none does, what was waited for is said."""
+    ear.settimeout(seconds)
+    try:
+        return ear.recv(65_536)
+    except socket.timeout:
+        raise TimeoutError(f"nothing came for {seconds} s: {what}") from None
+
+
 def told_by_run(folder, listing, trace, single=()):
     """The nodes' lines of `dpbr run` of the trace."""
     done = subprocess.run([PROGRAM, "run", *single, listing, trace], cwd=folder, capture_output=True, timeout=600)
@@ -117,7 +128,8 @@ def case(tally, kind, name):
     stored = f"{TESTS}/{kind}/{name}"
     words = contents(f"{stored}/words").decode().split()
     wanted = contents(f"{stored}/stdout")
-    with tempfile.TemporaryDirectory() as folder:
+    # what stays on a disk isn't asked here, and each note of a log would wait for it
+    with tempfile.TemporaryDirectory(dir=MEMORY) as folder:
         for file in ("LISTING", "BUILDS"):
             shutil.copy(f"{stored}/{file}", folder)
         os.mkdir(f"{folder}/DIR")
@@ -224,7 +236,7 @@ def cluster_faults(tally):
             ("2", {"--listing": "none"}), ("401 at 1", {"--listing": "bad"}), ("2", {"--builds": "none"}), ("1305 at 0", {"--builds": "bad"}),
             ("801", {"--weights": "1,2"}), ("2", {"--dir": "none"}), ("1204", {})), preexec_fn=no_files_left)
         words = ["cluster", *SHARED, "--members", "3", "--turns", "200"]
-        answer(words, folder)
+        tally.add("a cluster whose logs are refused later", difference(answer(words, folder), (ALL, b"", 0)))
         none, used = b"this isn't a log", logs_in(folder)
         # one log after the other, by number
         for first, second, wanted in ((none, used["node-1.log"], 1004), (used["node-1.log"], none, 1005), (used["node-0.log"], none, 1203),
@@ -527,8 +539,8 @@ def nothing_seen(me):
     return b"".join(b"dpbn: member %d: heard 0, sealed otherwise 0, asked again 0, unsent 0\n" % it for it in range(3) if it != me) + b"dpbn: strangers: 0\n"
 
 
-# turns that are enough for three nodes to hold a package, though one of them starts some seconds after another
-ENOUGH = "500"
+# turns that are enough for three nodes to hold a package, though one of them starts twenty seconds after another
+ENOUGH = "1000"
 
 
 def hosts(tally):
@@ -606,19 +618,31 @@ def grown(path, size, seconds=LIMIT):
 def overheard(folder):
     """A datagram that a node of another listing sends to the next one."""
     put(f"{folder}/other", b"a/c.FULLPKGNAME=c-1.0\n")
-    os.mkdir(f"{folder}/more")
-    base, ear = free_ports(3), None
-    while not ear:
-        try:
-            ear = taken(base + 1)
-        except OSError:
-            # somebody else took it since
-            base = free_ports(3)
-    with ear:
-        ear.settimeout(LIMIT)
-        answer(["node", "--listing", "other", "--builds", "builds", "--dir", "more", "--members", "3", "--me", "0", "--base", str(base),
-                "--turns", "2", "--patience", "0"], folder)
-        return ear.recv(65_536)
+    told = []
+    for number in range(TRIES):
+        logs = f"more-{number}"
+        os.mkdir(f"{folder}/{logs}")
+        base = free_ports(3)
+        with contextlib.suppress(TimeoutError), taken(base + 1) as ear:
+            told.append(answer(["node", "--listing", "other", "--builds", "builds", "--dir", logs, "--members", "3", "--me", "0", "--base", str(base),
+                                "--turns", "20", "--patience", "0"], folder))
+            if told[-1][2] == 0:
+                # it has ended, so what it sent is there
+                return heard(ear, "what a node of another listing sends to the next one", 60)
+    raise OSError(f"{TRIES} nodes of another listing sent nothing to the next one: {told}")
+
+
+def that_listen(folder, members, words):
+    """Nodes of three that run, and where each listens. If one of them can't take its port, others are tried."""
+    for _ in range(TRIES):
+        base = free_ports(3)
+        run = [started(folder, me, ["--base", str(base), *words]) for me in members]
+        where = [listening(node) for node in run]
+        if all(where):
+            return run, where
+        told = [ended(node) for node in run]
+        lay_logs(folder)
+    raise OSError(f"{TRIES} times a node of {members} didn't listen: {where}, {told}")
 
 
 def noise(tally):
@@ -628,16 +652,15 @@ def noise(tally):
         lay(folder)
         strange = [b"", b"noise", bytes(1_000), random.Random(1).randbytes(65_507), overheard(folder)]
         told = len(strange) * b"dpbn: fault 1202\n"
-        base = free_ports(3)
-        nodes = [started(folder, me, ["--base", str(base), "--turns", ENOUGH]) for me in range(3)]
-        for node in nodes:
-            put_in(listening(node), strange)
+        nodes, where = that_listen(folder, range(3), ["--turns", ENOUGH])
+        for place in where:
+            put_in(place, strange)
         got = [(*node.communicate(timeout=LIMIT), node.returncode) for node in nodes]
         for me in range(3):
             tally.add(f"node {me} with noise", difference(got[me], (node_line(me, i=1), told, 0)))
         lay_logs(folder)
-        lone = started(folder, 0, ["--base", str(base), "--turns", ENOUGH])
-        put_in(listening(lone), strange)
+        (lone,), (place,) = that_listen(folder, [0], ["--turns", ENOUGH])
+        put_in(place, strange)
         tally.add("a node without others, with noise", difference((*lone.communicate(timeout=LIMIT), lone.returncode), (node_line(0, q=1), told, 0)))
         lay_logs(folder)
         run = waiting_cluster(folder)
@@ -780,12 +803,15 @@ class Full:
 
 
 def held_by_all(tally, name, nodes, packages):
-    """Nodes that print their lines as they go obtain all while they run."""
+    """Nodes that print their lines as they go obtain all while they run. They are ended if that takes too long."""
     held, lines = [], Lines()
+    limit = threading.Timer(LIMIT, lambda: [node.kill() for node in nodes])
+    limit.start()
     for me, node in enumerate(nodes):
         told = []
         held.append(any(told.append(line) or line == node_line(me, i=packages) for line in iter(node.stderr.readline, b"")))
         lines += [f"node {me}: {node.poll()}, it printed {len(told)} lines, the last:", *(f"    {line!r}" for line in told[-4:])]
+    limit.cancel()
     for node in nodes:
         ended(node)
     tally.add(name, "" if all(held) else seen(lines))
@@ -803,7 +829,7 @@ def kills(tally, rounds=20, seed=1, packages=60, sealing=False, look=lambda fold
         spots = [(f"127.0.0.{me + 1}", base) if sealing else ("127.0.0.1", base + me) for me in range(3)]
         peers = ["--base", str(base)]
         if sealing:
-            answer(["key", "key"], folder)
+            subprocess.run([NODES, "key", "key"], cwd=folder, check=True, timeout=LIMIT)
             peers = ["--hosts", ",".join(f"{address}:{port}" for address, port in spots), "--key", "key"]
         words = [*peers, "--turns", "1000000", "--patience", "5"]
         nodes = [started(folder, me, words) for me in range(3)]
@@ -901,7 +927,6 @@ def beside(tally, several, at_a_time=None):
 
 
 def run(tally):
-    # they wait for syncs of their logs
     beside(tally, [functools.partial(case, kind="nodes", name=name) for name in sorted(os.listdir(f"{TESTS}/nodes"))], 4)
     for one in (no_calls, helps, faults, cluster_faults, bad_words, refused_logs, alone, cluster, exact_turns, progress, failing, sockets, kills):
         tally.case(one)

@@ -1,5 +1,6 @@
 """Nodes of a run with a key. Datagrams that are forged, flipped, replayed or sealed otherwise change nothing. Also repeated requests
 and faults, files of keys, and run files of logs that are lost, swapped, emptied and copied back."""
+import functools
 import hashlib
 import hmac
 import json
@@ -164,10 +165,14 @@ def others(line):
     return not (TALLY.match(line) or line.startswith((b"dpbn: strangers: ", b"node ")))
 
 
+def make_key(folder, name):
+    subprocess.run([NODES, "key", name], cwd=folder, check=True, timeout=600)
+
+
 def lay_run(folder, listing=LISTING, builds=nodes.BUILDS):
     """Files of a listing and builds, and a key; and gives it."""
     lay(folder, listing, builds)
-    subprocess.run([NODES, "key", "key"], cwd=folder, check=True, timeout=600)
+    make_key(folder, "key")
     return bytes.fromhex(contents(f"{folder}/key").decode().strip())
 
 
@@ -197,7 +202,7 @@ def keys(tally):
         tally.add("dpbn key, over a key", difference(answer(["key", "key"], folder), refused(2)))
         tally.add("the key that was there", "" if contents(f"{folder}/key") == first else "it changed")
         tally.add("dpbn key, in no folder", difference(answer(["key", "none/key"], folder), refused(2)))
-        answer(["key", "second"], folder)
+        make_key(folder, "second")
         tally.add("a second key", "" if contents(f"{folder}/second") != first else "it is the first")
         port = free_ports(1)
         digits = first[:64]
@@ -234,7 +239,7 @@ def runs(tally):
     """Logs that are lost, swapped, emptied, copied back, and run files of other runs."""
     with tempfile.TemporaryDirectory() as folder:
         lay_run(folder)
-        answer(["key", "second"], folder)
+        make_key(folder, "second")
         put(f"{folder}/other", b"a/c.FULLPKGNAME=c-1.0\n")
         port = free_ports(1)
         words = keyed(port)
@@ -401,9 +406,8 @@ def flipped(tally):
         lay_run(folder)
         port = free_ports(1)
         with taken(port, "127.0.0.3") as mouth:
-            mouth.settimeout(LIMIT)
             node = begun(folder, 0, keyed(port))
-            genuine = [mouth.recv(65_536) for _ in range(20)]
+            genuine = [nodes.heard(mouth, f"datagram {number + 1} of node 0, which printed {lines_of(folder, 0)[-5:]}") for number in range(20)]
             before = at_rest(folder, 0)
 
             def one(number):
@@ -432,7 +436,7 @@ def strangers_of_the_run(tally):
     for name, more, files in (("key", keyed, None), ("weights", None, None), ("listing", None, "other")):
         with tempfile.TemporaryDirectory() as folder:
             lay_run(folder)
-            answer(["key", "second"], folder)
+            make_key(folder, "second")
             put(f"{folder}/other", b"a/b.FULLPKGNAME=b-1.0\na/c.FULLPKGNAME=c-1.0\n")
             port = free_ports(1)
             words = keyed(port, "second") if more else keyed(port)
@@ -482,7 +486,7 @@ def replayed(tally, packages=30):
             tally.add("what was sent, sent again in its run", "" if all(it[0] > 0 and it[1] == 0 for it in heard) else f"{heard}")
             agreed_of_two(tally, folder, "a run that is replayed")
             os.remove(f"{folder}/key")
-            answer(["key", "key"], folder)
+            make_key(folder, "key")
             lay_logs(folder)
             node = begun(folder, 0, keyed(port))
             before = at_rest(folder, 0)
@@ -630,4 +634,4 @@ def faults_again(tally, count=50):
 def run(tally):
     for one in (keys, runs, folders, unread, believed, forged, flipped, strangers_of_the_run, replayed, repeated, faults_again, beside_a_flood):
         tally.case(one)
-    nodes.kills(tally, 20, 2, sealing=True)
+    tally.case(functools.partial(nodes.kills, rounds=20, seed=2, sealing=True))

@@ -1,4 +1,4 @@
-"""Parts of tests/soak with a small tree, for five minutes at most. These are bulk builds with kills, over bad lines, on bad disks and with
+"""Parts of tests/soak with a small tree, for some minutes. These are bulk builds with kills, over bad lines, on bad disks and with
 bad clocks; with members that are lost or late, and next to forged datagrams. The part `full-log` runs by hand: a node that starts with a
 log of 2 GiB takes 4 GiB of memory, and three of them run."""
 import functools
@@ -17,8 +17,8 @@ sys.path.insert(0, TESTS)
 from soak_parts import alone  # noqa: E402
 
 # how long a part may take, and how many run at a time
-LONGEST, AT_ONCE = 600, 2
-SMALL = ["--units", "40", "--median", "0.3", "--limit", "300"]
+LONGEST, AT_ONCE = 1200, 2
+SMALL = ["--units", "40", "--median", "0.3", "--limit", "500"]
 # the parts, those that take longest first. How long they take isn't judged here: other topics may run at the same time.
 PARTS = {
     "lines": [*SMALL, "--away", "24", "--carriers", "datagrams", "--cases", "all of it", "two halves"],

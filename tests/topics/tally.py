@@ -6,7 +6,7 @@ import re
 import shlex
 import subprocess
 import traceback
-from typing import Any, Callable, Dict, Iterator, List, Optional
+from typing import Any, Callable, Iterator, List, NamedTuple, Optional, Set, Tuple
 
 TOP = os.path.dirname(os.path.dirname(os.path.dirname(os.path.abspath(__file__))))
 TESTS = f"{TOP}/tests"
@@ -26,6 +26,26 @@ def say(text: str) -> None:
     print(f"{text}\n", end="", flush=True)
 
 
+# where a test is: the name of its case, if it is in one that can run by itself, and its own name
+Place = Tuple[str, str]
+
+
+class Result(NamedTuple):
+    """How a test ended: it passed if there is no problem."""
+
+    name: str
+    problem: str
+    case: Optional[Case]
+    is_timed: bool
+
+    def place(self) -> Place:
+        return name_of(self.case) if self.case else "", self.name
+
+    def first_line(self) -> str:
+        """What was wrong, on one line, and which kind of check it is, if it is one of time."""
+        return f"{'(a check of time) ' if self.is_timed else ''}{cut(' '.join(self.problem.split()))}"
+
+
 class Tally:
     """Counts what passed, and says what failed and what was skipped."""
 
@@ -34,68 +54,77 @@ class Tally:
         self.failed = 0
         # the names of those that failed
         self.names: List[str] = []
-        # of the checks of time, whether each passed, and the case that it is in, if that can run by itself
-        self.timed: Dict[str, bool] = {}
-        self.cases: Dict[str, Optional[Case]] = {}
+        # how each test ended, but for those that the gate counts
+        self.results: List[Result] = []
+        # parts and cases that came to their ends
+        self.whole: Set[Place] = set()
+        # what failed at first, and passed when it ran again by itself
+        self.only_alone: List[Result] = []
         # the case that runs
         self.current: Optional[Case] = None
         # what was not run for lack of a tool or a program, and how that is obtained
         self.skipped: List[str] = []
 
     def skip(self, name: str, lacking: str) -> None:
-        """Notes a part that can't be run here, with what it lacks and how that is obtained. The last lines of all tests say so once more."""
+        """Notes a part that can't be run here, with what it lacks and how that is obtained. The last lines say so once more."""
         self.skipped.append(f"{name}: {lacking}")
         say(f"tests/run: skipped: {name}: {lacking}")
 
     def add(self, name: str, problem: str, timed: bool = False) -> None:
         """One more test, which passed if there is no problem. A check of time is `timed`: it asks how long something takes, how much
-        of a processor, or for what follows only if processes come to run soon, and may fail on a busy machine. If it fails, its case runs
-        once more, by itself; its whole part of the tests, if it is in no case."""
-        if timed:
-            self.timed[name] = not problem and self.timed.get(name, True)
-            self.cases[name] = self.current
+        of a processor, or for what follows only if processes come to run soon, and may fail on a busy machine. What fails runs once
+        more by itself: its case; its whole part of the tests, if it is in no case."""
+        self.results.append(Result(name, problem, self.current, timed))
+        self.count(self.results[-1:], 1)
         if problem:
-            self.failed += 1
-            self.names.append(name)
             say(f"tests/run: FAILED: {name}: {problem}")
-        else:
-            self.passed += 1
+
+    def count(self, results: List[Result], sign: int) -> None:
+        """Counts these, or takes them back."""
+        for it in results:
+            self.passed += 0 if it.problem else sign
+            self.failed += sign if it.problem else 0
+            if it.problem and sign > 0:
+                self.names.append(it.name)
+            elif it.problem:
+                self.names.remove(it.name)
 
     def take(self, other: "Tally") -> None:
         """Adds what another one counted."""
         self.passed += other.passed
         self.failed += other.failed
         self.names += other.names
-        self.timed.update(other.timed)
-        self.cases.update(other.cases)
+        self.results += other.results
+        self.whole |= other.whole
+        self.only_alone += other.only_alone
         self.skipped += other.skipped
 
-    def late(self) -> List[str]:
-        """The checks of time that failed."""
-        return [name for name, passed in self.timed.items() if not passed]
+    def failures(self) -> List[Result]:
+        """What failed."""
+        return [it for it in self.results if it.problem]
 
-    def late_cases(self) -> Optional[List[Case]]:
-        """The cases in which these are; nothing if one of them is in no case."""
-        found = [self.cases.get(name) for name in self.late()]
+    def failing_cases(self) -> Optional[List[Case]]:
+        """The cases in which something failed; nothing if a failure is in no case."""
+        found = [it.case for it in self.failures()]
         cases = [it for place, it in enumerate(found) if it and it not in found[:place]]
         return None if None in found else cases
 
-    def correct(self, first: "Tally", second: "Tally") -> None:
-        """Counts the second run of a part whose first run was counted, since checks of time failed in it: each of them that passes now
-        has passed. Whatever else fails in one of both runs has failed."""
-        for name in first.late():
-            if second.timed.get(name):
-                self.names.remove(name)
-                self.failed -= 1
-                self.passed += 1
-        new = [name for name in second.names if name not in first.names]
-        self.names += new
-        self.failed += len(new)
+    def correct(self, first: "Tally", second: "Tally") -> List[str]:
+        """Counts the second run of a part, in place of what it repeats of the first run, which was counted. What failed and isn't
+        repeated has failed, but for a part that broke off, if it came to its end now. Returns the names of what has failed after both."""
+        repeated = {it.place() for it in second.results}
+        passed = (repeated | second.whole) - {it.place() for it in second.failures()}
+        self.count([it for it in first.results if it.place() in repeated | passed], -1)
+        self.count(second.results, 1)
+        self.only_alone += [it for it in first.failures() if it.place() in passed]
+        lost = [it.name for it in first.failures() if it.place() not in repeated | passed]
+        return lost + second.names
 
     def run(self, name: str, part: Callable[..., None], *more: Any) -> None:
         """Runs a part of the tests. One that breaks off is a failure, and the next one runs."""
         try:
             part(self, *more)
+            self.whole.add(Result(name, "", self.current, False).place())
         except Exception as error:
             self.add(name, broken_off(error))
 

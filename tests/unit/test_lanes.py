@@ -11,7 +11,7 @@ import time
 
 import pytest
 
-from topics import driver
+from topics import driver, network
 from topics.lanes import Kind, Lanes, Part
 from topics.tally import Lines, Tally, seen
 
@@ -182,39 +182,138 @@ def test_what_the_driver_answered(watch, monkeypatch):
     assert ran([Part("asks", asks), Part("again", asks_again)], 1).passed == 1
 
 
+def turn_of(watch, name):
+    """How often the part of this name began before, which is noted."""
+    with open(watch.folder / f"{name}.runs", "a+", encoding="ascii") as file:
+        file.write("x")
+        return file.tell() - 1
+
+
 def measured(watch, first, again, other=("", "")):
     """A part with a check of time and another check, with what is wrong in its first run and in its second one."""
     def run(tally):
-        place = watch.folder / "runs"
-        place.write_text(place.read_text() + "x" if place.exists() else "x")
-        turn = len(place.read_text()) - 1
+        turn = turn_of(watch, "measured")
         tally.add("how long", (first, again)[turn], timed=True)
         tally.add("what", other[turn])
     return Part("measured", run)
 
 
-@pytest.mark.parametrize("first,again,other,runs,passed,names", [
-    ("", "", ("", ""), 1, 3, []), ("9 s", "", ("", ""), 2, 3, []), ("9 s", "8 s", ("", ""), 2, 2, ["how long"]),
-    ("", "", ("wrong", ""), 1, 2, ["what"]), ("9 s", "", ("wrong", ""), 2, 2, ["what"]), ("9 s", "", ("", "wrong"), 2, 3, ["what"])])
-def test_checks_of_time(watch, capfd, first, again, other, runs, passed, names):
-    """If a check of time fails, its part runs again when all others have ended, and the second result counts. Nothing else that fails
-    in one of both runs is forgiven."""
+@pytest.mark.parametrize("first,again,other,runs,passed,names,alone", [
+    ("", "", ("", ""), 1, 3, [], []), ("9 s", "", ("", ""), 2, 3, [], ["how long"]), ("9 s", "8 s", ("", ""), 2, 2, ["how long"], []),
+    ("", "", ("wrong", ""), 2, 3, [], ["what"]), ("", "", ("wrong", "wrong"), 2, 2, ["what"], []),
+    ("9 s", "", ("wrong", ""), 2, 3, [], ["how long", "what"]), ("9 s", "", ("", "wrong"), 2, 2, ["what"], ["how long"]),
+    ("9 s", "", ("wrong", "wrong"), 2, 2, ["what"], ["how long"])])
+def test_what_runs_again(watch, capfd, first, again, other, runs, passed, names, alone):
+    """If something fails, its part runs again when all others have ended, and the second results count. Both are printed."""
     tally = ran([measured(watch, first, again, other), watch.part("long", 0.3)])
-    assert (len((watch.folder / "runs").read_text()), tally.passed, tally.names, tally.failed) == (runs, passed, names, len(names))
+    assert (turn_of(watch, "measured"), tally.passed, tally.names, tally.failed) == (runs, passed, names, len(names))
+    assert [it.name for it in tally.only_alone] == alone
     said = capfd.readouterr().out
     assert said.count("FAILED: how long: ") == bool(first) + bool(first and again)
-    assert not first or said.index("long ends") < said.index("measured: it runs again by itself") < said.index("measured, again: ")
+    assert said.count("FAILED: what: ") == sum(map(bool, other))
+    last = f"measured, again: {f'failed: {names[0]}' if names else 'it passed'}\n"
+    assert runs == 1 or said.index("long ends") < said.index("measured: it runs again by itself") < said.index(last)
 
 
-def test_a_check_of_time_that_is_not_measured_again(watch):
-    """If the second run breaks off before the check, it has failed."""
+def test_a_check_that_is_not_repeated(watch):
+    """If the second run breaks off before the check, both have failed."""
     def run(tally):
-        if (watch.folder / "ran").exists():
+        if turn_of(watch, "measured"):
             raise OSError("on purpose")
-        (watch.folder / "ran").touch()
         tally.add("how long", "9 s", timed=True)
+        tally.add("what", "")
     tally = ran([Part("measured", run)])
-    assert (tally.passed, sorted(tally.names)) == (0, ["how long", "measured"])
+    assert (tally.passed, sorted(tally.names), tally.only_alone) == (1, ["how long", "measured"], [])
+
+
+def test_what_breaks_off_once(watch):
+    """What breaks off, and comes to its end when it runs again, has passed, and its checks count once."""
+    def run(tally):
+        tally.add("first", "")
+        if not turn_of(watch, "breaks"):
+            raise OSError("on purpose")
+        tally.add("second", "")
+    tally = ran([Part("breaks", run)])
+    assert (tally.passed, tally.names, [it.name for it in tally.only_alone]) == (2, [], ["breaks"])
+    assert "OSError: on purpose" in tally.only_alone[0].first_line()
+
+
+def test_a_process_that_ends_once(watch):
+    """So it is with a process that ends badly."""
+    def run(tally):
+        if not turn_of(watch, "ends"):
+            os._exit(3)
+        tally.add("that", "")
+    tally = ran([Part("ends", run)])
+    assert (tally.passed, tally.names) == (1, [])
+    assert [it.first_line() for it in tally.only_alone] == ["its process ended with status 3"]
+
+
+def test_a_name_that_comes_twice(watch):
+    """Of a name that comes twice all must pass."""
+    def run(tally):
+        turn = turn_of(watch, "twice")
+        tally.add("name", "" if turn else "wrong")
+        tally.add("name", "wrong" if turn else "")
+        tally.add("other", "" if turn else "wrong")
+        tally.add("other", "" if turn else "wrong")
+    tally = ran([Part("twice", run)])
+    assert (tally.passed, tally.names, [it.name for it in tally.only_alone]) == (3, ["name"], ["other", "other"])
+
+
+def test_a_gate_does_not_run_again(watch):
+    """The gate runs once."""
+    def run(tally):
+        turn_of(watch, "gate")
+        tally.add("a goal", "it is open")
+    tally = ran([Part("gate", run, Kind.GATE)])
+    assert (turn_of(watch, "gate"), tally.names, tally.only_alone) == (1, ["a goal"], [])
+
+
+def test_one_after_the_other(watch):
+    """What runs again runs by itself: no other part runs then."""
+    def part(name):
+        def run(tally):
+            turn, began = turn_of(watch, name), time.monotonic()
+            time.sleep(0.3)
+            tally.add(name, "" if turn else "wrong")
+            (watch.folder / f"{name}.span").write_text(f"{began} {time.monotonic()}")
+        return Part(name, run)
+    tally = ran([part("one"), part("two"), watch.part("long", 0.5)])
+    spans = watch.spans()
+    assert (tally.passed, watch.at_a_time("one", "two", "long")) == (3, 1) and spans["long"][1] < min(spans["one"][0], spans["two"][0])
+
+
+def script():
+    """The script tests/run as a module."""
+    loader = importlib.machinery.SourceFileLoader("run", os.path.join(os.path.dirname(os.path.dirname(os.path.abspath(__file__))), "run"))
+    module = importlib.util.module_from_spec(importlib.util.spec_from_loader("run", loader))
+    loader.exec_module(module)
+    return module
+
+
+def test_the_last_lines(watch):
+    """They name what passed only by itself, with what was wrong at first on one line, and what is a check of time."""
+    tally = ran([measured(watch, "9 s", "", ("it isn't so\n    seen", ""))])
+    tally.skip("that", "there is none here")
+    assert script().last_lines(tally, "refused") == [
+        "topics shared the network of this machine: refused", "skipped: that: there is none here",
+        "passed only by itself: how long: first it failed with (a check of time) 9 s",
+        "passed only by itself: what: first it failed with it isn't so seen"]
+    assert script().last_lines(ran([watch.part("one", problem="wrong")]), "") == ["failed: one"]
+    assert not script().last_lines(ran([watch.part("two")]), "")
+
+
+@pytest.mark.parametrize("why", ["", "refused on purpose"])
+def test_networks_that_are_refused(watch, monkeypatch, why):
+    """If the system refuses networks, all runs in that of the machine, and why is known. The gate always does."""
+    monkeypatch.setattr(network, "separate", lambda: (watch.folder / "asked").write_text("") or why)
+    gate = Lanes(Tally(), [watch.part("gate", kind=Kind.GATE)], 4)
+    gate.run()
+    assert (gate.tally.passed, gate.shared, (watch.folder / "asked").exists()) == (1, "", False)
+    lanes = Lanes(Tally(), [watch.part("one"), watch.part("two")], 4)
+    lanes.run()
+    assert (lanes.tally.passed, lanes.shared, (watch.folder / "asked").exists()) == (2, why, True)
 
 
 PLACE = "PLACE_OF_CASES"
@@ -245,12 +344,12 @@ def cases_of(*cases):
     return Part("cases", run)
 
 
-def test_a_case_that_is_measured_again(watch, capfd, monkeypatch):
-    """Of a part with cases only those run again in which a check of time failed."""
+def test_a_case_that_runs_again(watch, capfd, monkeypatch):
+    """Of a part with cases only those run again in which something failed."""
     monkeypatch.setenv(PLACE, str(watch.folder / "ran"))
     tally = ran([cases_of(quick_case, late_case)])
     assert ((watch.folder / "ran").read_text().split(), tally.passed, tally.names) == (["quick", "late", "late"], 4, [])
-    assert "of cases, late case: it runs again by itself, for its checks of time: late, how long\n" in capfd.readouterr().out
+    assert "of cases, late case: it runs again by itself, since this failed: late, how long\n" in capfd.readouterr().out
 
 
 def test_a_case_that_cannot_be_told(watch, monkeypatch):
@@ -286,12 +385,10 @@ def test_what_was_seen():
 
 def test_the_parts_of_all_topics():
     """The gate is first, each part has a name of its own, and a topic that takes long has two parts, which run side by side."""
-    loader = importlib.machinery.SourceFileLoader("run", os.path.join(os.path.dirname(os.path.dirname(os.path.abspath(__file__))), "run"))
-    script = importlib.util.module_from_spec(importlib.util.spec_from_loader("run", loader))
-    loader.exec_module(script)
-    parts = {part.name: part for part in script.chosen([])}
-    assert list(parts)[0] == "gate" and len(parts) == len(script.chosen([]))
+    run = script()
+    parts = {part.name: part for part in run.chosen([])}
+    assert list(parts)[0] == "gate" and len(parts) == len(run.chosen([]))
     long = [parts["live"], parts["live, what is large"]]
     assert [(it.kind, it.on_programs) for it in long] == [(Kind.WAITS, True)] * 2
     assert not parts["hosts, without programs"].on_programs and parts["hosts"].on_programs and not parts["jobs"].on_programs
-    assert [part.name for part in script.chosen(["live"])] == ["live", "live, what is large"]
+    assert [part.name for part in run.chosen(["live"])] == ["live", "live, what is large"]
