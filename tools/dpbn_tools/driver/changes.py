@@ -15,7 +15,7 @@ MOST_EVENTS, MOST_BYTES = 64, 65536
 
 
 class Changes:
-    """What is waited for: a descriptor that can be read once something changed; -1 if the system has no way."""
+    """A descriptor that can be read once something changed; -1 if the system has no way."""
 
     def __init__(self, folder: str) -> None:
         self.number = -1
@@ -35,11 +35,12 @@ class Changes:
         number = calls.inotify_init1(os.O_NONBLOCK | os.O_CLOEXEC)
         if number < 0:
             raise OSError(ctypes.get_errno(), "inotify_init1")
+        # it is closed once nobody reads it any more
+        file = os.fdopen(number, "rb", buffering=0)
         wanted = IN_MOVED_FROM | IN_MOVED_TO | IN_CREATE | IN_DELETE | IN_ONLYDIR
         if calls.inotify_add_watch(number, os.fsencode(folder), ctypes.c_uint32(wanted)) < 0:
-            os.close(number)
             raise OSError(ctypes.get_errno(), "inotify_add_watch")
-        self.number, self.read = number, lambda: os.read(number, MOST_BYTES)
+        self.number, self.read = number, lambda: file.read(MOST_BYTES)
 
     def begin_kqueue(self, folder: str, system: Any) -> None:
         # the folder is open as long as it is watched
@@ -57,5 +58,5 @@ class Changes:
                 self.end()
 
     def end(self) -> None:
-        """Gives up: from now on it has to be looked for changes."""
+        """Gives up: from now on nothing wakes the loop."""
         self.number, self.read = -1, lambda: None
