@@ -1,5 +1,5 @@
 -- Lemmas about received texts.
-use Rattle.std.proofs.Common.{◌≡◌, ◌∙◌, ℕ, Bool, true, false, ◌&&◌, ◌||◌, List, [], ◌∷◌, ◌++◌, Err, Ok, OnErr, Option, Result, ap, refl, sym}
+use Rattle.std.proofs.Common.{◌≡◌, ◌∙◌, ℕ, Bool, true, false, ◌&&◌, ◌||◌, List, [], ◌∷◌, ◌++◌, Err, Ok, OnErr, Option, Result, ap, not, refl, sym}
 use Rattle.std.proofs.Math.Bool.{or-true}
 use Rattle.std.proofs.lemmas.List.Folds.{list_all-append, list_any-append}
 use Rattle.std.specs.Cmp.Lexicographic.{nat_list_eq_equiv}
@@ -7,6 +7,7 @@ use Rattle.std.specs.List.{list_all}
 use Rattle.std.specs.Str.{bytes_eq}
 use Rattle.faults.specs.Bytes.{Text, is_among}
 use Rattle.udp.specs.Inbox.{GoesOn, InboxState, Takes, came_as, is_vouched_for}
+use Rattle.udp.specs.Notices.{is_notice}
 use Rattle.udp.specs.Ways.{in_line}
 use Rattle.udp.specs.declared.line.Waiting.{Waiting}
 
@@ -62,6 +63,14 @@ module _ (key : Option Text) (came : List Text) where
       rw (full refl) (still_vouched_for (in_line old) bytes before)
   put_or_not old new bytes text node (Err e) put full err is before =
       rw err (still_vouched_for (in_line old) bytes before)
+
+-- One more text that doesn't begin as a notice does was queued or found no room: so does none in the
+-- queue.
+pub plain_or_not : {E : Type 0} (old new : List (Waiting ℕ)) (text : Text) (node : ℕ) (r : Result Bool E) → (r ≡ Ok true → in_line new ≡ in_line old ++ (node, text) ∷ []) → (r ≡ Ok false → new ≡ old) → OnErr r (new ≡ old) → is_notice text ≡ false → list_all (λ w. not (is_notice w.1)) (in_line old) ≡ true → list_all (λ w. not (is_notice w.1)) (in_line new) ≡ true
+plain_or_not old new text node (Ok true) put full err plain before =
+    rw (put refl) (list_all-append (λ (w : ℕ × Text). not (is_notice w.1)) (in_line old) ((node, text) ∷ []) ∙ rw (before, plain) refl)
+plain_or_not old new text node (Ok false) put full err plain before = rw (full refl) before
+plain_or_not old new text node (Err e) put full err plain before = rw err before
 
 -- ---- `GoesOn`
 

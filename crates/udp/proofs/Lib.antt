@@ -1,5 +1,8 @@
 mod FirstBad
 mod InboxLemmas
+mod NoticeLemmas
+mod NoticeTexts
+mod NotifyLemmas
 mod Coming
 mod RequestLemmas
 mod Leaving
