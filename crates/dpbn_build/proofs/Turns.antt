@@ -11,25 +11,27 @@ use Rattle.udp.specs.declared.patience.Hurry.{Hurry}
 -- Turns led from one state to the other.
 pub record HaveLed {D P : Type 0} (is_kept : D → Type 0) (history : D → History)
     (failures_of : D → ℕ) (given : P → Option (List Arrived)) (offered : P → Option (List Parcel))
-    (does : P → Call → P → Type 0) (vouches : P → Text → Type 0) (hurried : P → Hurry → P)
-    (old new : SoloState D P) : Type 0 where
+    (does : P → Call → P → Type 0) (vouches : P → Text → Type 0) (noticed : P → P → Type 0)
+    (hurried : P → Hurry → P) (old new : SoloState D P) : Type 0 where
   pub turns : List Turn
-  pub led : TurnsLead is_kept history failures_of given offered does vouches hurried old turns new
+  pub led : TurnsLead is_kept history failures_of given offered does vouches noticed hurried old
+      turns new
 
 module _ {D P : Type 0} (is_kept : D → Type 0) (history : D → History) (failures_of : D → ℕ)
     (given : P → Option (List Arrived)) (offered : P → Option (List Parcel))
-    (does : P → Call → P → Type 0) (vouches : P → Text → Type 0) (hurried : P → Hurry → P)
+    (does : P → Call → P → Type 0) (vouches : P → Text → Type 0) (noticed : P → P → Type 0)
+    (hurried : P → Hurry → P)
   where
     abbrev Is : SoloState D P → Turn → SoloState D P → Type 0
-    Is = IsTurn is_kept history failures_of given offered does vouches hurried
+    Is = IsTurn is_kept history failures_of given offered does vouches noticed hurried
 
     abbrev Lead : SoloState D P → List Turn → SoloState D P → Type 0
-    Lead = TurnsLead is_kept history failures_of given offered does vouches hurried
+    Lead = TurnsLead is_kept history failures_of given offered does vouches noticed hurried
 
     abbrev Have : SoloState D P → SoloState D P → Type 0
-    Have = HaveLed is_kept history failures_of given offered does vouches hurried
+    Have = HaveLed is_kept history failures_of given offered does vouches noticed hurried
 
-    -- one more turn behind these
+    -- one more turn after these
     pub TurnsLead-append : (old between new : SoloState D P) (turns : List Turn) (turn : Turn)
         → Lead old turns between → Is between turn new → Lead old (turns ++ turn ∷ []) new
     TurnsLead-append old between new [] turn same is =
@@ -52,5 +54,5 @@ module _ {D P : Type 0} (is_kept : D → Type 0) (history : D → History) (fail
     -- after them the node is at its end
     pub at_end : (rest : Option ℕ) (old new : SoloState D P) → Have old new
         → IsAtEnd rest new.node.node
-        → HaveTurned is_kept history failures_of given offered does vouches hurried rest old new
+        → HaveTurned is_kept history failures_of given offered does vouches noticed hurried rest old new
     at_end rest old new so ends = record { turns = so.turns; led = so.led; ends = ends }

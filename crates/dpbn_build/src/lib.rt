@@ -5,6 +5,7 @@
 mod answering;
 mod ending;
 mod host;
+mod notices;
 mod office;
 mod pacing;
 mod turning;

@@ -1,6 +1,6 @@
 //! The work between a node's turns: its builds, its wishes, and what is printed about it.
 
-use crate::ending::Rest;
+use crate::ending::{Answers, Rest};
 use crate::host::Builder;
 use crate::pacing::Pacing;
 use datagram_ports::Port;
@@ -201,7 +201,9 @@ impl<'f> Office<'f> {
         }
         let log_len = solo.node().log_len();
         let held = held_of(solo.counts());
-        self.rest.note(self.pacing.now, log_len, held, has_moved);
+        let answers = Answers::of(solo.node().member());
+        self.rest
+            .note(self.pacing.now, log_len, held, answers, has_moved);
         self.tell_fill(log_len, err);
     }
 
@@ -221,7 +223,8 @@ impl<'f> Office<'f> {
         self.keep_act(rt, member, &Act::Own(input), err);
     }
 
-    /// Updates the desk after a step of the node.
+    /// Updates the desk after a step of the node. A mark that couldn't be written is a fault, too:
+    /// the build counts as failed all the same.
     fn keep_act<E: Write>(
         &mut self,
         rt: &HostRuntime,
@@ -229,8 +232,9 @@ impl<'f> Office<'f> {
         act: &Act,
         err: &mut E,
     ) {
-        if let Err(fault) = self.desk.took(rt, member, act, self.pacing.now) {
-            self.refuse(&fault, err);
+        match self.desk.took(rt, member, act, self.pacing.now) {
+            Ok(None) => {}
+            Ok(Some(fault)) | Err(fault) => self.refuse(&fault, err),
         }
     }
 
@@ -254,7 +258,7 @@ impl<'f> Office<'f> {
     }
 
     /// Prints a fault of the work folder. The node has no wishes for a while.
-    fn refuse<E: Write>(&mut self, fault: &WorkFault, err: &mut E) {
+    pub fn refuse<E: Write>(&mut self, fault: &WorkFault, err: &mut E) {
         self.telling.refused(Refusal::of(fault), err);
         self.pacing.pause();
     }

@@ -48,6 +48,44 @@ pub struct Place {
     pub patience: u16,
     /// Whether a log of the run must already exist.
     pub is_continued: bool,
+    /// The number of units, if the node reads and sends notices of failed builds.
+    pub units: Option<u32>,
+}
+
+impl Place {
+    /// The place of a node that reads and sends notices, in a run with this number of units.
+    pub fn with_notices(self, units: u32) -> Place
+        ensures { result ≡ record self { units = Some units } }
+    {
+        let Place {
+            sealing,
+            addresses,
+            patience,
+            is_continued,
+            units: _,
+        } = self;
+        Place {
+            sealing,
+            addresses,
+            patience,
+            is_continued,
+            units: Some(units),
+        }
+    }
+
+    /// Which datagrams the node's port accepts, in the run over the tree, among members with these
+    /// weights.
+    fn guard(&self, tree: &Tree, weights: &Weights) -> Guard
+        ensures sealed { result.seal ≡ seal_of tree.now weights.now self.now.sealing.key }
+        ensures closed { self.now.sealing.key ≢ None → result.is_open ≡ false }
+        ensures members { self.now.sealing.is_open ≡ false → result.is_open ≡ false }
+    {
+        let guard = self.sealing.guard(tree, weights);
+        match self.units {
+            Some(units) => guard.with_notices(tree.digest(), units),
+            None => guard,
+        }
+    }
 }
 
 /// The place that the arguments describe.
@@ -84,6 +122,7 @@ pub fn place_of_words<K: KeyFiles>(
         addresses,
         patience: patience.unwrap_or(PATIENCE),
         is_continued: run.is_continued,
+        units: None,
     })
 }
 
@@ -157,7 +196,7 @@ pub fn begin<'c, F: LogFolder>(
         &place.sealing,
         place.is_continued,
     )?;
-    let guard = place.sealing.guard(tree, weights);
+    let guard = place.guard(tree, weights);
     let port = port_of(rt, place.addresses, me, place.patience, guard)?;
     Ok(Begun { start, port })
 }

@@ -16,17 +16,17 @@ set_twice (z ∷ zs) zero x y = refl
 set_twice (z ∷ zs) (suc k) x y = ap (λ l. z ∷ l) (set_twice zs k x y)
 
 module _ (tree : Tree) (weights : List ℕ) (k : ℕ) (first : Programs) where
-  -- the turns of `dpbn build`, before each of which its port is told how long to wait
+  -- the turns of `dpbn build`, before each of which its port exchanges notices and is told how long to wait
   build_turns : (old : Running) (turns : List Turn) (new : Running)
       (led : BuildTurnsLead old turns new) (early late : Programs) → IsThere tree weights k first early old
       → BuildTurnsHappened tree weights k old turns new led early late → IsThere tree weights k first late new
   build_turns old [] new led early late there others =
       subst (IsThere tree weights k first late) (sym led) (others_go tree weights k first early late old there others)
-  build_turns old (turn ∷ more) new (between, is, led) early late there (p, q, others, here, happened) =
-      let port = hurried_port old.port turn.hurry in
+  build_turns old (turn ∷ more) new (between, (noticed, exchanged, is), led) early late there (p, q, others, here, happened) =
+      let port = hurried_port noticed turn.hurry in
       let told = port_changes tree weights k first p old port (others_go tree weights k first early p old there others) in
       build_turns between more new led q late
-      (takes tree weights k first (with_port tree weights k first p old port) q (SoFar turn.made turn.wish) (told_to hurried_port turn.hurry old)
+      (takes tree weights k first (with_port tree weights k first p old port) q (SoFar turn.made turn.wish) (told_to hurried_port turn.hurry noticed old)
       between turn.answer told is (record {
         heard = here.heard;
         agrees = here.agrees;

@@ -21,16 +21,18 @@ hurried_port port hurry = record port { hurry = hurry }
 abbrev pub BuildTurnsLead : Running → List Turn → Running → Type 0
 BuildTurnsLead =
     TurnsLead file_agrees file_history (λ (disk : FileDisk). disk.failures)
-    (λ (port : UdpPort LibcRuntime). None) (λ port. None) DoesOverUdp port_vouches hurried_port
+    (λ (port : UdpPort LibcRuntime). None) (λ port. None) DoesOverUdp port_vouches ExchangesNotice
+    hurried_port
 
 -- These turns are what happened, with all that others did before, between and after them.
 abbrev pub BuildTurnsHappened : (tree : Tree) (weights : List ℕ) (k : ℕ) (old : Running)
     (turns : List Turn) (new : Running) → BuildTurnsLead old turns new → Programs → Programs
     → Type 0
 BuildTurnsHappened tree weights k old [] new led early late = OthersDid tree weights k early late
-BuildTurnsHappened tree weights k old (turn ∷ more) new (between, is, led) early late =
+BuildTurnsHappened tree weights k old (turn ∷ more) new (between, (port, noticed, is), led) early
+    late =
     (p : Programs) × (q : Programs) × OthersDid tree weights k early p
-    × IsTurnThere k (SoFar turn.made turn.wish) (told_to hurried_port turn.hurry old) between
+    × IsTurnThere k (SoFar turn.made turn.wish) (told_to hurried_port turn.hurry port old) between
     turn.answer is p q
     × BuildTurnsHappened tree weights k between more new led q late
 
