@@ -1,7 +1,7 @@
 -- Turns, one after the other.
 use Rattle.std.proofs.Common.{◌≡◌, ◌++◌, ℕ, List, [], ◌∷◌, Option, refl, subst}
-use Rattle.dpbn_build.specs.Turns.{HaveTurned, IsAtEnd, IsTurn, Turn, TurnsLead}
-use Rattle.dpbn_node.specs.Runs.{SoloState}
+use Rattle.dpbn_build.specs.Turns.{HasExchanged, HaveTurned, IsAtEnd, IsTurn, Turn, TurnsLead, told_to}
+use Rattle.dpbn_node.specs.Runs.{IsTurn as IsTurnOf, SoFar, SoloState}
 use Rattle.faults.specs.Bytes.{Text}
 use Rattle.datagram_ports.specs.Calls.{Call}
 use Rattle.datagram_ports.specs.Kept.{Arrived, Parcel}
@@ -50,6 +50,20 @@ module _ {D P : Type 0} (is_kept : D → Type 0) (history : D → History) (fail
       turns = so.turns ++ turn ∷ [];
       led = TurnsLead-append old between new so.turns turn so.led is;
     }
+
+    -- a turn after an exchange of notices, in which nothing but the port changed
+    pub turned : (old told new : SoloState D P) (turn : Turn)
+        → told ≡ record old { port = told.port } → HasExchanged noticed old.port told.port
+        → IsTurnOf is_kept history failures_of given offered does vouches
+        (SoFar turn.made turn.wish) (told_to hurried turn.hurry told.port told) new turn.answer
+        → Is old turn new
+    turned old told new turn same exchanged took = (
+      told.port,
+      exchanged,
+      subst (λ s. IsTurnOf is_kept history failures_of given offered does vouches
+      (SoFar turn.made turn.wish) (told_to hurried turn.hurry told.port s) new turn.answer) same
+      took,
+    )
 
     -- after them the node is at its end
     pub at_end : (rest : Option ℕ) (old new : SoloState D P) → Have old new

@@ -25,6 +25,7 @@ use Rattle.stable_record.specs.RealFile.{file_agrees, file_history}
 use Rattle.stable_record.specs.declared.file_disk.FileDisk.{FileDisk}
 use Rattle.stable_record.specs.declared.identity.Identity.{Identity}
 use Rattle.udp.specs.Calls.{DoesOverUdp}
+use Rattle.udp.specs.Notifying.{HasNotified}
 
 -- ---- what is printed
 
@@ -33,7 +34,7 @@ use Rattle.udp.specs.Calls.{DoesOverUdp}
 pub record HasBuilt (rest : Option ℕ) (old new : Running) : Type 0 where
   pub last : Running
   pub turned : HaveTurned file_agrees file_history (λ disk. disk.failures) (λ port. None)
-      (λ port. None) DoesOverUdp port_vouches ExchangesNotice
+      (λ port. None) DoesOverUdp port_vouches HasNotified
       (λ port hurry. record port { hurry = hurry }) rest old last
   pub flushed : HasFlushed last new
 

@@ -2,6 +2,7 @@
 ghost use Rattle.std.specs.Prelude.{◌≡◌, true};
 ghost use Rattle.dpbn_build.specs.Build.{HasBuilt};
 ghost use Rattle.dpbn_build.specs.Turns.{HaveTurned, IsTurn, Turn};
+ghost use Rattle.udp.specs.Notifying.{HasNotified};
 ghost use Rattle.udp.specs.declared.patience.Hurry.{Hurry};
 
 use crate::ending::is_at_end;
@@ -45,7 +46,7 @@ pub(crate) trait BuildPort {
 impl<'c, C: Clock> BuildPort for UdpPort<'c, C> {
     ghost hurried = { λ port hurry. record port { hurry = hurry } };
 
-    ghost noticed = { ExchangesNotice };
+    ghost noticed = { HasNotified };
 
     fn set_hurry(&mut self, hurry: Hurry) {
         UdpPort::set_hurry(self, hurry)

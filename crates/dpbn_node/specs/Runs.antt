@@ -23,6 +23,7 @@ use Rattle.node.specs.declared.fault.NodeFault.{NodeFault}
 use Rattle.program_io.specs.Listings.{IsDescribed}
 use Rattle.program_io.specs.Refusals.{IsSystemRefusal, memory_refusal}
 use Rattle.program_io.specs.declared.refusal.Refusal.{Refusal}
+use Rattle.protocol.specs.Answers.{tree_digest}
 use Rattle.protocol.specs.State.{engine_of}
 use Rattle.run_file.specs.Starts.{IsStarted}
 pub use Rattle.lone_node.specs.Handed.{SoFar}
@@ -38,6 +39,7 @@ use Rattle.udp.specs.Hosts.{IsFirstBad, WriteHosts}
 use Rattle.udp.specs.Inbox.{is_vouched_for}
 use Rattle.udp.specs.Leaving.{texts_of as texts_that_wait}
 use Rattle.udp.specs.Ways.{AreLocal, IsSeatOf}
+use Rattle.udp.specs.declared.notice.Listing.{Listing}
 use Rattle.udp.specs.declared.udp_port.UdpPort.{UdpPort}
 
 -- ---- nodes
@@ -145,6 +147,12 @@ run_at tree weights place = record {
   is_open = place.sealing.is_open;
   is_continued = place.is_continued;
 }
+
+-- the listing that notices are about, if the node reads and sends notices in a run with this number
+-- of units
+abbrev pub listing_of : Tree → Option ℕ → Option Listing
+listing_of tree None = None
+listing_of tree (Some units) = Some (record { digest = tree_digest tree; units = units })
 
 -- The port seals what it sends, and opens what it receives, with the run's key, if there is one. It
 -- accepts no datagrams from strangers if there is a key, or if the run doesn't accept them.

@@ -10,6 +10,7 @@ use Rattle.lone_node.specs.Handed.{SoFar}
 use Rattle.stable_record.specs.RealFile.{file_agrees, file_history}
 use Rattle.stable_record.specs.declared.file_disk.FileDisk.{FileDisk}
 use Rattle.udp.specs.Calls.{DoesOverUdp}
+use Rattle.udp.specs.Notifying.{HasNotified}
 use Rattle.udp.specs.declared.patience.Hurry.{Hurry}
 use Rattle.udp.specs.declared.udp_port.UdpPort.{UdpPort}
 
@@ -21,7 +22,7 @@ hurried_port port hurry = record port { hurry = hurry }
 abbrev pub BuildTurnsLead : Running → List Turn → Running → Type 0
 BuildTurnsLead =
     TurnsLead file_agrees file_history (λ (disk : FileDisk). disk.failures)
-    (λ (port : UdpPort LibcRuntime). None) (λ port. None) DoesOverUdp port_vouches ExchangesNotice
+    (λ (port : UdpPort LibcRuntime). None) (λ port. None) DoesOverUdp port_vouches HasNotified
     hurried_port
 
 -- These turns are what happened, with all that others did before, between and after them.
