@@ -131,13 +131,14 @@ pub fn has_notes(disk: &mut FileDisk, owner: &Identity) -> Result<bool, Refusal>
     }
 }
 
-/// The work between the node's turns. The node has the work folder to itself.
+/// The work between the turns of the member's node, which has the work folder to itself.
+/// `has_notes` says whether the node's log has notes.
 ///
 /// # Errors
 ///
 /// The system refused to open the work folder or to read the clock; the folder has files although
 /// the node's log has no notes; or others may write in it.
-fn office_of<'f>(
+pub fn office_of<'f>(
     rt: &HostRuntime,
     site: &Site<'f>,
     me: u8,
@@ -181,9 +182,8 @@ fn folder_of<'f>(
     }
 }
 
-/// How many units are built here at a time, by default one, at how many members a unit's build may
-/// fail, and the waits of a node that leaves the units of other members to them for `takeover`
-/// seconds.
+/// How many units are built here at a time, by default one; at how many members a unit's build may
+/// fail; and the waits. The units of other members are left to them for `takeover` seconds.
 fn pace_of(site: &Site<'_>, takeover: u32) -> Pace {
     Pace {
         jobs: u32::from(site.jobs.unwrap_or(1)),

@@ -104,9 +104,9 @@ impl Rest {
         }
     }
 
-    /// Notes what the last turn did: the log's length, the number of held packages, how many
-    /// members answered to the open claim, and whether the turn answered a question or gave the
-    /// node the result of its job.
+    /// Notes what the last turn left: the log's length, the number of held packages, and how many
+    /// members answered to the open claim. `has_moved` says whether it answered a question or gave
+    /// the node the result of its job.
     pub fn note(
         &mut self,
         now: Instant,

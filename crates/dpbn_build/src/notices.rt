@@ -54,8 +54,7 @@ impl Office<'_> {
     /// Hands a notice to the desk.
     fn hear_notice<E: Write>(&mut self, member: &Member<'_>, notice: Notice, err: &mut E) {
         let Notice { member: from, unit } = notice;
-        let now = self.pacing.now;
-        if self.desk.hear_notice(member, from, unit, now).is_err() {
+        if self.desk.hear_notice(member, from, unit).is_err() {
             self.refuse(&WorkFault::Memory, err);
         }
     }

@@ -72,7 +72,7 @@ impl<'c, C: Clock> BuildPort for UdpPort<'c, C> {
 /// Takes turns until the node is down or at rest, and then sends what is still queued to be sent.
 /// Faults of turns are printed on `err`, and so are the node's lines. Returns whether the node is
 /// down or at rest. If it isn't, it took as many turns as can be counted.
-pub(crate) fn run<E: Write>(
+pub fn run<E: Write>(
     rt: &HostRuntime,
     solo: &mut Solo<'_, FileDisk, UdpPort<'_, HostRuntime>>,
     office: &mut Office<'_>,

@@ -1,9 +1,10 @@
 -- The turns of `dpbn build` are turns of programs.
-use Rattle.std.proofs.Common.{◌≡◌, ◌∙◌, ℕ, zero, suc, List, [], ◌∷◌, slice_set, refl, sym, ap, subst}
+use Rattle.std.proofs.Common.{◌≡◌, ◌∙◌, ℕ, zero, suc, List, [], ◌∷◌, Option, slice_set, refl, sym, ap, subst}
+use Rattle.dpbn_build.specs.Build.{HasBuilt}
 use Rattle.dpbn_build.specs.Turns.{Turn, told_to}
 use Rattle.dpbn_node.specs.Runs.{Running}
 use Rattle.laws.proofs.ProgramWorlds.{IsThere, flushes, others_go, port_changes, takes, with_port}
-use Rattle.laws.specs.BuildPrograms.{BuildTurnsAreOfPrograms, BuildTurnsHappened, BuildTurnsLead, hurried_port}
+use Rattle.laws.specs.BuildPrograms.{BuildTurnsAreOfPrograms, BuildTurnsHappened, BuildTurnsLead, HasBuiltAmong, hurried_port}
 use Rattle.laws.specs.Programs.{Programs, Runs}
 use Rattle.listing.specs.Tree.{Tree}
 use Rattle.lone_node.specs.Handed.{SoFar}
@@ -39,3 +40,12 @@ build_turns_are_of_programs tree weights k rest old new first early late built d
     flushes tree weights k first late built.last new
     (build_turns tree weights k first old built.turned.turns built.last built.turned.led early late
     (record { did = did; here = here }) happened) built.flushed
+
+-- what its contract promises of a run of `dpbn build`, with that
+pub among_programs : (rest : Option ℕ) (old new : Running) → HasBuilt rest old new
+    → HasBuiltAmong rest old new
+among_programs rest old new run = record {
+  run = run;
+  of_programs = λ tree weights k first early late did here happened.
+      build_turns_are_of_programs tree weights k rest old new first early late run did here happened;
+}

@@ -47,3 +47,13 @@ BuildTurnsAreOfPrograms =
     → BuildTurnsHappened tree weights k old run.turned.turns run.last run.turned.led early late
     → (q : Programs) × HaveRun tree weights first q × (slice_get q.places k ≡ Some (Runs new))
     × (q.offered ≡ late.offered)
+
+-- `dpbn build` took turns from one state of its node to the other. If they happened in a run of
+-- programs, together with what others did, they are among the things that programs do there.
+pub record HasBuiltAmong (rest : Option ℕ) (old new : Running) : Type 0 where
+  pub run : HasBuilt rest old new
+  pub of_programs : (tree : Tree) (weights : List ℕ) (k : ℕ) (first early late : Programs)
+      → HaveRun tree weights first early → slice_get early.places k ≡ Some (Runs old)
+      → BuildTurnsHappened tree weights k old run.turned.turns run.last run.turned.led early late
+      → (q : Programs) × HaveRun tree weights first q × (slice_get q.places k ≡ Some (Runs new))
+      × (q.offered ≡ late.offered)
