@@ -3,6 +3,7 @@ mod InboxLemmas
 mod NoticeLemmas
 mod NoticeTexts
 mod NotifyLemmas
+pub mod Notified
 mod Coming
 mod RequestLemmas
 mod Leaving
