@@ -4,6 +4,7 @@ mod NoticeLemmas
 mod NoticeTexts
 mod NotifyLemmas
 pub mod Notified
+mod UsedPort
 mod Coming
 mod RequestLemmas
 mod Leaving
