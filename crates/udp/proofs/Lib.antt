@@ -3,6 +3,8 @@ mod InboxLemmas
 mod NoticeLemmas
 mod NoticeTexts
 mod NotifyLemmas
+pub mod Notified
+mod UsedPort
 mod Coming
 mod RequestLemmas
 mod Leaving

@@ -33,7 +33,7 @@ unit_at digest notice long small =
     ap (big_number 4) (behind ∙ sym (append-nil bytes)) ∙ big_number-reads_back 4 notice.unit [] small
 
 -- a notice is its two numbers
-same_notice : (a b : Notice) → a.member ≡ b.member → a.unit ≡ b.unit → a ≡ b
+pub same_notice : (a b : Notice) → a.member ≡ b.member → a.unit ≡ b.unit → a ≡ b
 same_notice a b member unit =
     ap (λ (m : ℕ). let n : Notice = record { member = m; unit = a.unit } in n) member
     ∙ ap (λ (u : ℕ). let n : Notice = record { member = b.member; unit = u } in n) unit

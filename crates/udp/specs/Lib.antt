@@ -10,5 +10,6 @@ pub mod Coming
 pub mod Outbox
 pub mod Calls
 pub mod Notifying
+pub mod Uses
 pub mod Tallies
 pub mod inside

@@ -215,10 +215,9 @@ impl<'c, C: Clock> UdpPort<'c, C> {
             return;
         };
         let text = text_of(&listing.digest, notice);
-        let bytes = match self.outbox.make(text.as_slice()) {
-            Ok(()) => self.outbox.bytes(),
-            Err(_) => None,
-        };
+        // if memory runs out, there are no bytes
+        let _made = self.outbox.make(text.as_slice());
+        let bytes = self.outbox.bytes();
         notify_each(
             self.alloc,
             &self.seats,

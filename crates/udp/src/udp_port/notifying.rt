@@ -1,5 +1,5 @@
 //! Outgoing notices of a port: they are queued for the other members.
-ghost use Rattle.std.specs.Prelude.{◌≡◌, ◌++◌, ◌∷◌, IfSome, List, false, length, min, true, ℕ};
+ghost use Rattle.std.specs.Prelude.{◌≡◌, ◌++◌, ◌∷◌, [], IfSome, List, false, length, min, true, ℕ};
 ghost use Rattle.udp.specs.Notifying.{AreNotified, IsNotified};
 ghost use Rattle.udp.specs.Ways.{in_line};
 
@@ -23,7 +23,7 @@ pub(crate) fn notify_each(
     leaving: &mut Line<Way>,
     tallies: &mut Tallies,
 )
-    ensures { (text : List ℕ) → IfSome bytes (λ b. b.now ≡ text)
+    ensures { (text : List ℕ) → IfSome bytes.entry (λ b. b.now ≡ text)
         → AreNotified seats.now addresses.now from text (min (length addresses.now) 255)
         (record { waiting = leaving.old.waiting.items; tallies = tallies.old.members.items })
         (record { waiting = leaving.new.waiting.items; tallies = tallies.new.members.items }) }
@@ -46,7 +46,7 @@ fn notify(
     leaving: &mut Line<Way>,
     tallies: &mut Tallies,
 )
-    ensures { (text : List ℕ) → IfSome bytes (λ b. b.now ≡ text)
+    ensures { (text : List ℕ) → IfSome bytes.entry (λ b. b.now ≡ text)
         → IsNotified seats.now addresses.now from to text
         (record { waiting = leaving.old.waiting.items; tallies = tallies.old.members.items })
         (record { waiting = leaving.new.waiting.items; tallies = tallies.new.members.items }) }
@@ -65,7 +65,7 @@ fn notify(
 /// Queues the bytes, if there are any, with the way, and returns whether there was room and memory
 /// for them.
 fn is_put(alloc: Global, way: Way, bytes: Option<&[u8]>, leaving: &mut Line<Way>) -> bool
-    ensures put { result ≡ true → (text : List ℕ) → IfSome bytes (λ b. b.now ≡ text)
+    ensures put { result ≡ true → (text : List ℕ) → IfSome bytes.entry (λ b. b.now ≡ text)
         → in_line leaving.new.waiting.items
         ≡ in_line leaving.old.waiting.items ++ (way, text) ∷ [] }
     ensures lost { result ≡ false → leaving.new.waiting.items ≡ leaving.old.waiting.items }
