@@ -61,8 +61,8 @@ module _ {D P : Type 0} (is_kept : D → Type 0) (history : D → History) (fail
       told.port,
       exchanged,
       subst (λ s. IsTurnOf is_kept history failures_of given offered does vouches
-      (SoFar turn.made turn.wish) (told_to hurried turn.hurry told.port s) new turn.answer) same
-      took,
+          (SoFar turn.made turn.wish) (told_to hurried turn.hurry told.port s) new turn.answer) same
+          took,
     )
 
     -- after them the node is at its end

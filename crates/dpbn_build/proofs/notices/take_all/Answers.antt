@@ -10,11 +10,10 @@ returns-in_default-clause-exchanged g c =
     c.take_notice.ensures)
 
 pub loop-preserved : goal.loop-preserved
-loop-preserved g c =
-    (
-      port_set c.args.solo.now c.loop.solo c.take_notice.new.self c.loop.invariant.0,
-      one_noticed g.P.BuildPort.noticed c.args.solo.now.port c.loop.solo.port
+loop-preserved g c = (
+  port_set c.args.solo.now c.loop.solo c.take_notice.new.self c.loop.invariant.0,
+  one_noticed g.P.BuildPort.noticed c.args.solo.now.port c.loop.solo.port
       c.take_notice.new.self c.loop.invariant.1
       (subst (λ p. g.P.BuildPort.noticed p c.take_notice.new.self) c.port.ensures.value
       c.take_notice.ensures),
-    )
+)
