@@ -35,8 +35,8 @@ pub record HasExchanged {P : Type 0} (noticed : P → P → Type 0) (old new : P
 abbrev pub told_to : {D P : Type 0} → (P → Hurry → P) → Hurry → P → SoloState D P → SoloState D P
 told_to hurried hurry port s = record s { port = hurried port hurry }
 
--- The turn led from the old state to the new one. Before it the port exchanged notices, and its wait
--- was set. So before the turn nothing of the node changed but its port.
+-- The turn led from the old state to the new one. Before it the port exchanged notices, and its
+-- wait was set. So before the turn nothing of the node changed but its port.
 abbrev pub IsTurn : {D P : Type 0} → (D → Type 0) → (D → History) → (D → ℕ)
     → (P → Option (List Arrived)) → (P → Option (List Parcel)) → (P → Call → P → Type 0)
     → (P → Text → Type 0) → (P → P → Type 0) → (P → Hurry → P) → SoloState D P → Turn
