@@ -1,5 +1,5 @@
 //! The sockets of the nodes here.
-ghost use Rattle.std.specs.Prelude.{◌≡◌, ◌≢◌, ◌<◌, ◌≤◌, ◌↔◌, Err, IfErr, IfOk, IsTrue, MatchOption, Ok, false, length, true};
+ghost use Rattle.std.specs.Prelude.{◌≡◌, ◌≢◌, ◌<◌, ◌≤◌, ◌↔◌, Err, IfErr, IfOk, IsTrue, MatchOption, Ok, false, length, true, ℕ};
 ghost use Rattle.std.specs.List.{Contains};
 ghost use Rattle.udp.specs.Coming.{Became, HasCome, IsHeardOrLost, IsStrange};
 ghost use Rattle.udp.specs.Inbox.{GoesOn};
@@ -99,6 +99,17 @@ pub fn seat_of(seats: &[Seat], node: u8) -> Option<usize>
     ensures { MatchOption result (HasNoSeat seats.now node) (IsSeatOf seats.now node) }
 {
     seats.iter().position(|seat| seat.node == node)
+}
+
+/// Whether the node has a seat.
+pub fn has_seat(seats: &[Seat], node: u8) -> bool
+    ensures some { result ≡ true → (place : ℕ) × IsSeatOf seats.now node place }
+    ensures none { result ≡ false → HasNoSeat seats.now node }
+{
+    match seat_of(seats, node) {
+        Some(_) => true,
+        None => false,
+    }
 }
 
 /// The way from one node to the other, if there is one.
@@ -286,10 +297,12 @@ fn take_notice(
 
 /// Whether the notice may come from this address.
 fn may_notify(sieve: Sieve<'_>, from: &SocketAddr, notice: Notice) -> bool
-    ensures { IsTrue result ↔ (MayNotify sieve.entry.seats.now sieve.entry.members.now
+    ensures yes { result ≡ true → MayNotify sieve.entry.seats.now sieve.entry.members.now
+        sieve.entry.is_open from.now notice }
+    ensures no { result ≡ false → ¬ (MayNotify sieve.entry.seats.now sieve.entry.members.now
         sieve.entry.is_open from.now notice) }
 {
-    if seat_of(sieve.seats, notice.member).is_some() {
+    if has_seat(sieve.seats, notice.member) {
         return false;
     }
     match sieve.members.get(notice.member as usize) {
