@@ -1,5 +1,5 @@
 -- Lemmas about notices.
-use Rattle.std.proofs.Common.{◌≡◌, ◌∙◌, ◌<◌, ℕ, Bool, true, false, ◌&&◌, List, [], ◌∷◌, ◌++◌, Option, None, Some, ap, append_assoc, ltb, refl, subst, sym}
+use Rattle.std.proofs.Common.{◌≡◌, ◌∙◌, ◌<◌, Bool, true, false, List, [], ◌∷◌, ◌++◌, Option, None, Some, ap, append_assoc, ltb, refl, subst, sym}
 use Rattle.std.specs.List.{list_all}
 use Rattle.std.specs.declared.net.socket_addr.SocketAddr.{SocketAddr}
 use Rattle.std.proofs.lemmas.Bool.{lt-ltb}
@@ -8,7 +8,7 @@ use Rattle.std.proofs.lemmas.List.Folds.{list_all-append}
 use Rattle.faults.specs.Bytes.{Text, is_among}
 use Rattle.udp.proofs.InboxLemmas.{all_follow, among_last, among_more, both}
 use Rattle.udp.specs.Inbox.{came_as, is_vouched_for}
-use Rattle.udp.specs.Notices.{BecameNotice, IsRead, NoticesGoOn, NoticesState, is_heard_of, notice_text}
+use Rattle.udp.specs.Notices.{BecameNotice, NoticesGoOn, NoticesState, is_heard_of, notice_text}
 use Rattle.udp.specs.declared.inbox.Came.{Came}
 use Rattle.udp.specs.declared.inbox.Came.TheVariants.{Lost, Repeated, Unsealed, Waits}
 use Rattle.udp.specs.declared.notice.Listing.{Listing}

@@ -1,21 +1,19 @@
 -- Lemmas about notices that are sent.
-use Rattle.std.proofs.Common.{◌≡◌, ◌+◌, ◌++◌, ◌∙◌, ⊎_elim, ℕ, zero, suc, add-one, List, [], ◌∷◌, Bor, IfSome, Option, None, Some, OnErr, OnOk, Result, Err, Ok, append_assoc, ap, inl, inr, map, refl, subst, sym}
+use Rattle.std.proofs.Common.{◌≡◌, ◌+◌, ◌++◌, ◌∙◌, ℕ, zero, suc, add-one, List, [], ◌∷◌, Bor, IfSome, Option, None, Some, OnErr, OnOk, Result, Err, Ok, append_assoc, ap, inl, inr, refl, subst, sym}
 use Rattle.std.specs.Prelude.{option_map}
 use Rattle.std.proofs.lemmas.List.{append-nil}
 use Rattle.std.specs.List.{AllByRecursion}
 use Rattle.std.specs.declared.net.socket_addr.SocketAddr.{SocketAddr}
 use Rattle.faults.specs.Bytes.{Text}
-use Rattle.udp.specs.Calls.{IsSamePort}
 use Rattle.udp.specs.Inbox.{came_as}
 use Rattle.udp.specs.Notices.{notice_text}
-use Rattle.udp.specs.Notifying.{AreNotified, GoesToEach, HasNotified, IsNotified, IsOfNotice, Notifies, Outgoing, outgoing}
+use Rattle.udp.specs.Notifying.{AreNotified, GoesToEach, IsNotified, IsOfNotice, Outgoing}
 use Rattle.udp.specs.Ways.{in_line}
 use Rattle.udp.specs.declared.line.Waiting.{Waiting}
 use Rattle.udp.specs.declared.notice.Listing.{Listing}
 use Rattle.udp.specs.declared.notice.Notice.{Notice}
 use Rattle.udp.specs.declared.sockets.Seat.{Seat}
 use Rattle.udp.specs.declared.sockets.Way.{Way}
-use Rattle.udp.specs.declared.udp_port.UdpPort.{UdpPort}
 
 -- ---- what holds of each element
 

@@ -154,8 +154,7 @@ pub fn take_off(
 {
     let mut has_failed = false;
     for seat in sieve.seats {
-        has_failed =
-            take_all(seat, sieve, buffer, inbox, requests, notices, tallies) || has_failed;
+        has_failed = take_all(seat, sieve, buffer, inbox, requests, notices, tallies) || has_failed;
     }
     has_failed
 }
@@ -229,7 +228,7 @@ fn take_one(
     ensures noticed { length bytes.now ≤ sieve.entry.most
         → Contains sieve.entry.members.now from.now → is_notice bytes.now ≡ true
         → (came : Came) × BecameNotice sieve.entry.seats.now sieve.entry.members.now
-            sieve.entry.is_open from.now bytes.now notices.old notices.new came }
+        sieve.entry.is_open from.now bytes.now notices.old notices.new came }
 {
     if bytes.len() > sieve.most {
         tallies.note_strange();
@@ -276,12 +275,7 @@ fn take_noticed(
 }
 
 /// Takes bytes that begin as a notice does and came from this address.
-fn take_notice(
-    bytes: &[u8],
-    from: &SocketAddr,
-    sieve: Sieve<'_>,
-    notices: &mut Notices,
-) -> Came
+fn take_notice(bytes: &[u8], from: &SocketAddr, sieve: Sieve<'_>, notices: &mut Notices) -> Came
     ensures { BecameNotice sieve.entry.seats.now sieve.entry.members.now sieve.entry.is_open
         from.now bytes.now notices.old notices.new result }
 {

@@ -1,6 +1,5 @@
-use Rattle.std.proofs.Common.{◌≡◌, ◌∙◌, ◌<◌, ◌≤◌, ℕ, List, None, Some, arith, length, refl, rules, slice_get, true, false, sym}
+use Rattle.std.proofs.Common.{◌≡◌, ◌∙◌, ◌<◌, ◌≤◌, Some, arith, length, refl, rules, slice_get, true, false, sym}
 use Rattle.std.proofs.lemmas.Option.{slice_get_read, slice_get_within}
-use Rattle.std.specs.declared.net.socket_addr.SocketAddr.{SocketAddr}
 use Rattle.udp.proofs.sockets.may_notify.Goals as goal
 
 pub returns-then-has_seat-clause-no : goal.returns-then-has_seat-clause-no

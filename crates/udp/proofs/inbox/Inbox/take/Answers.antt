@@ -18,5 +18,5 @@ invariant_of-self c =
       plain = plain_or_not c.self.inside.come.waiting.items c.put-is_put.new.self.waiting.items
           c.in-Some.text.now c.args.node c.put-is_put.result put.put put.full put.err
           (plain_text c.self.inside.seal c.in-Some.text.now
-          (subst (λ (bytes : Text). is_notice bytes ≡ false) is c.requires)) c.self.invariant.plain;
+          (subst (λ (bytes : Text). is_notice bytes ≡ false) is c.requires.plain)) c.self.invariant.plain;
     }

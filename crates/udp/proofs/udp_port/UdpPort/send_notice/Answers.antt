@@ -1,4 +1,4 @@
-use Rattle.std.proofs.Common.{◌≡◌, ◌∙◌, [], List, None, Some, Option, OnErr, OnOk, ap, length, min, refl, subst, sym}
+use Rattle.std.proofs.Common.{◌≡◌, ◌∙◌, [], List, Some, Option, OnOk, length, min, refl, subst, sym}
 use Rattle.std.specs.declared.net.socket_addr.SocketAddr.{SocketAddr}
 use Rattle.faults.specs.Bytes.{Text}
 use Rattle.udp.specs.Inbox.{came_as}
