@@ -12,12 +12,12 @@ use Rattle.udp.specs.Ways.{in_line}
 use Rattle.udp.specs.declared.line.Waiting.{Waiting}
 
 -- both tests hold if their `&&` does
-both : (a b : Bool) → (a && b) ≡ true → (a ≡ true) × (b ≡ true)
+pub both : (a b : Bool) → (a && b) ≡ true → (a ≡ true) × (b ≡ true)
 both true b h = (refl, h)
 both false b h = absurd (cc h)
 
 -- a test that follows from another holds of all that the other holds of
-all_follow : {X : Type 0} (p q : X → Bool) → ((x : X) → p x ≡ true → q x ≡ true) → (xs : List X) → list_all p xs ≡ true → list_all q xs ≡ true
+pub all_follow : {X : Type 0} (p q : X → Bool) → ((x : X) → p x ≡ true → q x ≡ true) → (xs : List X) → list_all p xs ≡ true → list_all q xs ≡ true
 all_follow p q follows [] h = refl
 all_follow p q follows (x ∷ xs) h =
     let parts = both (p x) (list_all p xs) h in
@@ -26,7 +26,7 @@ all_follow p q follows (x ∷ xs) h =
     rw (first, others)
 
 -- what is among these is among them and one more
-among_more : (came : List Text) (bytes t : Text) → is_among came t ≡ true → is_among (came ++ bytes ∷ []) t ≡ true
+pub among_more : (came : List Text) (bytes t : Text) → is_among came t ≡ true → is_among (came ++ bytes ∷ []) t ≡ true
 among_more came bytes t there =
     list_any-append (λ u. bytes_eq u t) came (bytes ∷ []) ∙ ap (λ b. b || is_among (bytes ∷ []) t) there
 
@@ -35,7 +35,7 @@ same_bytes : (t : Text) → bytes_eq t t ≡ true
 same_bytes t = nat_list_eq_equiv.refl t
 
 -- the last received bytes are among those received
-among_last : (came : List Text) (bytes : Text) → is_among (came ++ bytes ∷ []) bytes ≡ true
+pub among_last : (came : List Text) (bytes : Text) → is_among (came ++ bytes ∷ []) bytes ≡ true
 among_last came bytes =
     list_any-append (λ u. bytes_eq u bytes) came (bytes ∷ [])
     ∙ (ap (λ b. is_among came bytes || (b || false)) (same_bytes bytes) ∙ or-true (is_among came bytes))

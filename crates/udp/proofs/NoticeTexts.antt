@@ -1,6 +1,7 @@
 -- Texts of notices are read as they are written.
-use Rattle.std.proofs.Common.{◌≡◌, ◌∙◌, ℕ, ◌+◌, ◌<◌, ◌^◌, ◌++◌, List, [], ◌∷◌, Bool, true, false, Option, None, Some, ap, arith, drop, length, length-append, refl, subst, sym}
-use Rattle.std.specs.Prelude.{codes, slice_index}
+use Rattle.std.proofs.Common.{◌≡◌, ◌∙◌, ℕ, ◌+◌, ◌<◌, ◌^◌, ◌++◌, [], ◌∷◌, Bool, true, false, ◌&&◌, Option, None, Some, eqb, ap, arith, drop, length, length-append, refl, subst, sym}
+use Rattle.std.specs.Prelude.{slice_index}
+use Rattle.std.proofs.Math.Bool.{and-false}
 use Rattle.std.proofs.Math.Seq.{drop-append-add, get_or-append_seam}
 use Rattle.std.proofs.lemmas.List.{append-nil}
 use Rattle.byteorder.specs.Endian.{big_bytes, big_number}
@@ -17,6 +18,14 @@ length-notice_text digest notice long =
     let rest = length-append digest (notice.member ∷ big_bytes 4 notice.unit) in
     let unit = length-bytes_high_first 4 notice.unit in
     omega (arith, long, rest, unit)
+
+-- so in 41 bytes the digest has 32
+pub length-digest : (digest text : Text) (notice : Notice) → length text ≡ 41 → text ≡ notice_text digest notice → length digest ≡ 32
+length-digest digest text notice long is =
+    let same : length text ≡ length (notice_text digest notice) = ap length is in
+    let rest = length-append digest (notice.member ∷ big_bytes 4 notice.unit) in
+    let unit = length-bytes_high_first 4 notice.unit in
+    omega (arith, long, same, rest, unit)
 
 -- the number of the member is at place 36
 pub member_at : (digest : Text) (notice : Notice) → length digest ≡ 32 → slice_index (notice_text digest notice) 36 ≡ notice.member
@@ -48,11 +57,20 @@ is_read_one listing text read notice long few member unit is =
     unit ∙ (ap (λ (t : Text). big_number 4 (drop 37 t)) is.0 ∙ unit_at listing.digest notice long (omega (arith, is.1))) in
     same_notice read notice one other
 
+-- fewer than four bytes don't begin as a notice does
+two_of_four : (a b : Bool) → (a && (b && false)) ≡ false
+two_of_four true b = and-false b
+two_of_four false b = refl
+
+three_of_four : (a b c : Bool) → (a && (b && (c && false))) ≡ false
+three_of_four true b c = two_of_four b c
+three_of_four false b c = refl
+
 -- a text that doesn't begin as a notice does, if its bytes in a datagram don't
 pub plain_text : (key : Option Text) (text : Text) → is_notice (came_as key text) ≡ false → is_notice text ≡ false
 plain_text None text plain = plain
 plain_text (Some key) [] plain = refl
-plain_text (Some key) (a ∷ []) plain = refl
-plain_text (Some key) (a ∷ b ∷ []) plain = refl
-plain_text (Some key) (a ∷ b ∷ c ∷ []) plain = refl
+plain_text (Some key) (a ∷ []) plain = and-false (eqb 68 a)
+plain_text (Some key) (a ∷ b ∷ []) plain = two_of_four (eqb 68 a) (eqb 80 b)
+plain_text (Some key) (a ∷ b ∷ c ∷ []) plain = three_of_four (eqb 68 a) (eqb 80 b) (eqb 66 c)
 plain_text (Some key) (a ∷ b ∷ c ∷ d ∷ text) plain = plain

@@ -1,20 +1,19 @@
 -- Lemmas about notices that are sent.
-use Rattle.std.proofs.Common.{◌≡◌, ◌+◌, ◌++◌, ◌∙◌, ⊎_elim, ℕ, zero, suc, add-one, List, [], ◌∷◌, Option, None, Some, append_assoc, ap, inl, inr, map, refl, subst, sym}
+use Rattle.std.proofs.Common.{◌≡◌, ◌+◌, ◌++◌, ◌∙◌, ℕ, zero, suc, add-one, List, [], ◌∷◌, Bor, IfSome, Option, None, Some, OnErr, OnOk, Result, Err, Ok, append_assoc, ap, inl, inr, refl, subst, sym}
+use Rattle.std.specs.Prelude.{option_map}
 use Rattle.std.proofs.lemmas.List.{append-nil}
 use Rattle.std.specs.List.{AllByRecursion}
 use Rattle.std.specs.declared.net.socket_addr.SocketAddr.{SocketAddr}
 use Rattle.faults.specs.Bytes.{Text}
-use Rattle.udp.specs.Calls.{IsSamePort}
 use Rattle.udp.specs.Inbox.{came_as}
 use Rattle.udp.specs.Notices.{notice_text}
-use Rattle.udp.specs.Notifying.{AreNotified, GoesToEach, HasNotified, IsNotified, IsOfNotice, Notifies, Outgoing, outgoing}
+use Rattle.udp.specs.Notifying.{AreNotified, GoesToEach, IsNotified, IsOfNotice, Outgoing}
 use Rattle.udp.specs.Ways.{in_line}
 use Rattle.udp.specs.declared.line.Waiting.{Waiting}
 use Rattle.udp.specs.declared.notice.Listing.{Listing}
 use Rattle.udp.specs.declared.notice.Notice.{Notice}
 use Rattle.udp.specs.declared.sockets.Seat.{Seat}
 use Rattle.udp.specs.declared.sockets.Way.{Way}
-use Rattle.udp.specs.declared.udp_port.UdpPort.{UdpPort}
 
 -- ---- what holds of each element
 
@@ -27,6 +26,15 @@ all_of_both P (x ∷ xs) ys first second = (first.0, all_of_both P xs ys first.1
 pub all_imply : {X : Type 0} (P Q : X → Type 0) → ((x : X) → P x → Q x) → (xs : List X) → AllByRecursion P xs → AllByRecursion Q xs
 all_imply P Q follows [] h = tt
 all_imply P Q follows (x ∷ xs) h = (follows x h.0, all_imply P Q follows xs h.1)
+
+-- ---- bytes that were made
+
+-- the bytes are those that were made, if there are any
+pub made_bytes : {F : Type 0} (r : Result (Unit {0}) F) (made : Option Text) (bytes : Option (Bor Text)) (text : Text)
+    → OnOk r (made ≡ Some text) → OnErr r (made ≡ None) → made ≡ option_map (λ b. b.now) bytes → IfSome bytes (λ b. b.now ≡ text)
+made_bytes r made None text ok err is = tt
+made_bytes (Ok u) made (Some b) text ok err is = let both : Some b.now ≡ Some text = sym is ∙ ok in cc
+made_bytes (Err f) made (Some b) text ok err is = absurd (let bad : None ≡ Some b.now = sym err ∙ is in cc)
 
 -- ---- what is queued
 
@@ -67,7 +75,7 @@ module _ (seats : List Seat) (addresses : List SocketAddr) (from : ℕ) (text : 
   -- for one member the text is queued at most once
   one_queued : (to : ℕ) (old new : Outgoing) → IsNotified seats addresses from to text old new → HasQueued text old.waiting new.waiting
   one_queued to old new (inl none) = HasQueued-none text old.waiting new.waiting (ap (λ (o : Outgoing). o.waiting) none.1)
-  one_queued to old new (inr (inl away)) = HasQueued-one text away.1.0 old.waiting new.waiting away.1.1.1
+  one_queued to old new (inr (inl away)) = HasQueued-one text away.1.0 old.waiting new.waiting away.1.2
   one_queued to old new (inr (inr lost)) = HasQueued-none text old.waiting new.waiting lost.0
 
   -- so only the text is queued

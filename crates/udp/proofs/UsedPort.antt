@@ -1,5 +1,5 @@
 -- Only what a port was used to send leaves it, and notices are read as they were sent.
-use Rattle.std.proofs.Common.{◌≡◌, ◌⊎◌, ⊎_elim, ◌∙◌, ◌++◌, ◌+◌, ◌<◌, ◌^◌, ℕ, List, [], ◌∷◌, Option, None, Some, Ok, Err, inl, inr, map, length, take, refl, sym, ap, subst, append_assoc, arith}
+use Rattle.std.proofs.Common.{◌≡◌, ⊎_elim, ◌∙◌, ◌++◌, ℕ, List, [], ◌∷◌, Option, None, Some, Ok, Err, inl, inr, map, length, take, refl, sym, ap, subst, append_assoc}
 use Rattle.std.specs.Prelude.{slice_index, drop}
 use Rattle.std.specs.List.{AllByRecursion}
 use Rattle.std.specs.List.Sorted.{IsPermutation}
@@ -8,11 +8,11 @@ use Rattle.std.proofs.lemmas.List.{append-nil, map-append}
 use Rattle.std.proofs.lemmas.List.Sorted.{IsPermutation-append_left, IsPermutation-refl, IsPermutation-trans}
 use Rattle.byteorder.specs.Endian.{big_bytes, big_number}
 use Rattle.faults.specs.Bytes.{Text}
-use Rattle.datagram_ports.specs.Calls.{Call, Received, Sent}
+use Rattle.datagram_ports.specs.Calls.{Received, Sent}
 use Rattle.seals.specs.Sealed.{sealed}
 use Rattle.udp.proofs.Notified.{IsSamePort-more, IsSamePort-same}
 use Rattle.udp.proofs.NoticeTexts.{member_at, same_notice, unit_at}
-use Rattle.udp.proofs.NotifyLemmas.{HasQueued, all_queued}
+use Rattle.udp.proofs.NotifyLemmas.{all_queued}
 use Rattle.udp.proofs.SentAway.{leaves_text, left_out, moved_none, out_more, out_same, seat_or_none, texts_in_line}
 use Rattle.udp.specs.Calls.{IsSamePort, Setup, out_of}
 use Rattle.udp.specs.Inbox.{came_as}

@@ -9,6 +9,7 @@ use Rattle.udp.specs.Inbox.{came_as}
 use Rattle.udp.specs.Leaving.{IsLeft, texts_of}
 use Rattle.udp.specs.Notices.{NoticesGoOn}
 use Rattle.udp.specs.Ways.{HasNoSeat, HasWay, IsSeatOf, LeavesBy}
+use Rattle.udp.specs.declared.patience.Hurry.TheVariants.{Patient}
 use Rattle.udp.specs.declared.sockets.Seat.{Seat}
 use Rattle.udp.specs.declared.udp_port.UdpPort.{UdpPort}
 
@@ -31,6 +32,19 @@ setup_of p = record {
   is_open = p.is_open;
   front = p.front;
 }
+
+-- Nothing has happened to the port yet: nothing came, waits, was handed to the system or offered, and
+-- a receive is patient.
+pub record IsEmpty {C : Type 0} (port : UdpPort C) : Type 0 where
+  pub came : port.inbox.came ≡ []
+  pub waiting : port.inbox.waiting ≡ []
+  pub notified : port.notices.came ≡ []
+  pub notices : port.notices.waiting ≡ []
+  pub leaving : port.leaving.waiting.items ≡ []
+  pub handed : port.handed.all ≡ []
+  pub sends : port.sends ≡ 0
+  pub failures : port.failures ≡ 0
+  pub hurry : port.hurry ≡ Patient
 
 -- It is the same port: its configuration and keys are unchanged, and so is the listing that its
 -- notices are about.

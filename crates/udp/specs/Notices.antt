@@ -1,5 +1,5 @@
 -- Notices: at a member, a build of a unit failed.
-use Rattle.std.specs.Prelude.{◌≡◌, ◌⊎◌, ◌++◌, ◌<◌, ◌&&◌, ℕ, Bool, false, List, [], ◌∷◌, Option, None, Some, codes, nat_lt, slice_get}
+use Rattle.std.specs.Prelude.{◌≡◌, ◌⊎◌, ◌++◌, ◌<◌, ◌&&◌, Bool, false, List, [], ◌∷◌, Option, None, Some, codes, nat_lt, slice_get}
 use Rattle.std.specs.declared.net.socket_addr.SocketAddr.{SocketAddr}
 use Rattle.byteorder.specs.Endian.{big_bytes}
 use Rattle.faults.specs.Bytes.{Text, begins_with}

@@ -1,12 +1,11 @@
 -- Notices that a port sends and hands over.
-use Rattle.std.specs.Prelude.{◌≡◌, ◌⊎◌, ◌++◌, ℕ, zero, suc, min, IsPermutation, List, [], ◌∷◌, Option, None, Some, length, replicate}
+use Rattle.std.specs.Prelude.{◌≡◌, ◌⊎◌, ◌++◌, ℕ, zero, suc, min, List, Option, None, Some, length}
 use Rattle.std.specs.List.{AllByRecursion}
 use Rattle.std.specs.declared.net.socket_addr.SocketAddr.{SocketAddr}
 use Rattle.faults.specs.Bytes.{Text}
-use Rattle.datagram_ports.specs.Calls.{Call, Received, Sent}
-use Rattle.udp.specs.Calls.{AreSentAway, DoesOverUdp, IsSamePort, out_of}
+use Rattle.udp.specs.Calls.{IsSamePort}
 use Rattle.udp.specs.Inbox.{came_as}
-use Rattle.udp.specs.Notices.{NoticesState, notice_text}
+use Rattle.udp.specs.Notices.{notice_text}
 use Rattle.udp.specs.Tallies.{unsent_once_more, with_tally}
 use Rattle.udp.specs.Ways.{HasNoSeat, HasNoWay, IsSeatOf, LeavesBy, in_line}
 use Rattle.udp.specs.declared.line.Waiting.{Waiting}

@@ -21,9 +21,9 @@ pub data Use : Type 0 where
 
 -- The notice was sent, and nothing else happened.
 pub record SendsNotice {C : Type 0} (old : UdpPort C) (notice : Notice) (new : UdpPort C) : Type 0
-    where
-  pub sent : Notifies old notice new
-  pub only : HasNotified old new
+  where
+    pub sent : Notifies old notice new
+    pub only : HasNotified old new
 
 -- The first notice was taken, if there was one, and nothing else happened.
 pub record TakesNotice {C : Type 0} (old : UdpPort C) (answer : Option Notice) (new : UdpPort C)
@@ -71,11 +71,11 @@ UsesSend seats key listing (Took answer ∷ uses) texts = UsesSend seats key lis
 -- Nothing leaves the port except what the uses send. The port is the same, and the texts handed
 -- over or queued are those from before and those that the uses send away, each once.
 pub record LeavesByUse {C : Type 0} (old : UdpPort C) (uses : List Use) (new : UdpPort C) : Type 0
-    where
-  pub same : IsSamePort old new
-  pub texts : List Text
-  pub sent : UsesSend old.seats.items old.outbox.key old.notices.listing uses texts
-  pub out : IsPermutation (out_of old ++ texts) (out_of new)
+  where
+    pub same : IsSamePort old new
+    pub texts : List Text
+    pub sent : UsesSend old.seats.items old.outbox.key old.notices.listing uses texts
+    pub out : IsPermutation (out_of old ++ texts) (out_of new)
 
 -- Law: this holds of any port that was used so.
 abbrev pub UsesLeaveWhatIsSent : Type 0 → Type 0

@@ -1,5 +1,5 @@
 //! Received texts of this run.
-ghost use Rattle.std.specs.Prelude.{◌≡◌, ◌≢◌, ◌++◌, ◌∷◌, [], IfSome, List, MatchOption, None, false, option_map, option_to_list, true, ℕ};
+ghost use Rattle.std.specs.Prelude.{◌≡◌, ◌≢◌, ◌++◌, ◌∷◌, [], IfSome, IsSomeAnd, List, MatchOption, None, false, option_map, option_to_list, true, ℕ};
 ghost use Rattle.udp.specs.Inbox.{Takes, came_as, is_vouched_for};
 ghost use Rattle.udp.specs.Notices.{is_notice};
 
@@ -70,7 +70,7 @@ impl Inbox {
             × ((text : List ℕ) → bytes.now ≢ came_as self.old.key text) }
         ensures never { result ≢ Repeated }
     {
-        let Some(text) = opened(&self.seal, bytes) else {
+        let Some(text) = self.text_in(bytes) else {
             return Came::Unsealed;
         };
         let is_put = self.come.put(self.alloc, node, text);
@@ -79,6 +79,15 @@ impl Inbox {
             Ok(true) => Came::Waits,
             Ok(false) | Err(_) => Came::Lost,
         }
+    }
+
+    /// The text in these bytes, unless it has to be sealed and isn't.
+    fn text_in<'b>(&self, bytes: &'b [u8]) -> Option<&'b [u8]>
+        ensures { MatchOption result
+            ((text : List ℕ) → bytes.now ≢ came_as self.now.key text)
+            (λ text. bytes.now ≡ came_as self.now.key text.now) }
+    {
+        opened(&self.seal, bytes)
     }
 
     /// Whether no text is queued.
@@ -103,9 +112,11 @@ impl Inbox {
 
 /// The text in these bytes, unless it has to be sealed and isn't.
 pub fn opened<'b>(seal: &Option<Seal>, bytes: &'b [u8]) -> Option<&'b [u8]>
-    ensures { MatchOption result
+    ensures exact { MatchOption result
         ((text : List ℕ) → bytes.now ≢ came_as seal.now text)
         (λ text. bytes.now ≡ came_as seal.now text.now) }
+    ensures back { (text : List ℕ) → bytes.now ≡ came_as seal.now text
+        → IsSomeAnd result (λ opened. opened.now ≡ text) }
 {
     match seal {
         Some(seal) => seal.opened(bytes),

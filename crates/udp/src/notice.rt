@@ -49,10 +49,13 @@ pub fn text_of(digest: &[u8; 32], notice: Notice) -> ArrayVec<u8, 41>
     text
 }
 
-/// The notice with this text, if it is about one of the listing's units.
-pub fn notice_in(listing: &Listing, text: &[u8]) -> Option<Notice>
-    ensures { MatchOption result ((notice : Notice) → ¬ (IsNoticeOf listing.now text.now notice))
-        (IsNoticeOf listing.now text.now) }
+/// The notice with this text, if it is about one of the units of the listing with this digest and
+/// this many units.
+pub fn notice_in(digest: &[u8; 32], units: u32, text: &[u8]) -> Option<Notice>
+    ensures { MatchOption result
+        ((notice : Notice) → ¬ (IsNoticeOf (record { digest = digest.now; units = units })
+        text.now notice))
+        (IsNoticeOf (record { digest = digest.now; units = units }) text.now) }
 {
     if text.len() != NOTICE_SIZE {
         return None;
@@ -61,7 +64,7 @@ pub fn notice_in(listing: &Listing, text: &[u8]) -> Option<Notice>
         member: text[MEMBER_PLACE],
         unit: BigEndian::read_u32(&text[MEMBER_PLACE + 1..]),
     };
-    if notice.unit < listing.units && text_of(&listing.digest, notice).as_slice() == text {
+    if notice.unit < units && text_of(digest, notice).as_slice() == text {
         Some(notice)
     } else {
         None

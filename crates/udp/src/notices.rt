@@ -71,10 +71,10 @@ impl Notices {
         let Some(text) = opened(&self.seal, bytes) else {
             return Err(Came::Unsealed);
         };
-        let Some(listing) = &self.listing else {
+        let Some(listing) = self.listing else {
             return Err(Came::Lost);
         };
-        match notice_in(listing, text) {
+        match notice_in(&listing.digest, listing.units, text) {
             Some(notice) => Ok(notice),
             None => Err(Came::Unsealed),
         }

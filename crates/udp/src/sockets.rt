@@ -1,5 +1,5 @@
 //! The sockets of the nodes here.
-ghost use Rattle.std.specs.Prelude.{◌≡◌, ◌≢◌, ◌<◌, ◌≤◌, ◌↔◌, Err, IfErr, IfOk, IsTrue, MatchOption, Ok, false, length, true};
+ghost use Rattle.std.specs.Prelude.{◌≡◌, ◌≢◌, ◌<◌, ◌≤◌, ◌↔◌, Err, IfErr, IfOk, IsTrue, MatchOption, Ok, false, length, true, ℕ};
 ghost use Rattle.std.specs.List.{Contains};
 ghost use Rattle.udp.specs.Coming.{Became, HasCome, IsHeardOrLost, IsStrange};
 ghost use Rattle.udp.specs.Inbox.{GoesOn};
@@ -101,6 +101,17 @@ pub fn seat_of(seats: &[Seat], node: u8) -> Option<usize>
     seats.iter().position(|seat| seat.node == node)
 }
 
+/// Whether the node has a seat.
+pub fn has_seat(seats: &[Seat], node: u8) -> bool
+    ensures some { result ≡ true → (place : ℕ) × IsSeatOf seats.now node place }
+    ensures none { result ≡ false → HasNoSeat seats.now node }
+{
+    match seat_of(seats, node) {
+        Some(_) => true,
+        None => false,
+    }
+}
+
 /// The way from one node to the other, if there is one.
 pub fn way_of(seats: &[Seat], addresses: &[SocketAddr], from: u8, to: u8) -> Option<Way>
     ensures { MatchOption result (HasNoWay seats.now addresses.now from to)
@@ -143,8 +154,7 @@ pub fn take_off(
 {
     let mut has_failed = false;
     for seat in sieve.seats {
-        has_failed =
-            take_all(seat, sieve, buffer, inbox, requests, notices, tallies) || has_failed;
+        has_failed = take_all(seat, sieve, buffer, inbox, requests, notices, tallies) || has_failed;
     }
     has_failed
 }
@@ -218,7 +228,7 @@ fn take_one(
     ensures noticed { length bytes.now ≤ sieve.entry.most
         → Contains sieve.entry.members.now from.now → is_notice bytes.now ≡ true
         → (came : Came) × BecameNotice sieve.entry.seats.now sieve.entry.members.now
-            sieve.entry.is_open from.now bytes.now notices.old notices.new came }
+        sieve.entry.is_open from.now bytes.now notices.old notices.new came }
 {
     if bytes.len() > sieve.most {
         tallies.note_strange();
@@ -265,12 +275,7 @@ fn take_noticed(
 }
 
 /// Takes bytes that begin as a notice does and came from this address.
-fn take_notice(
-    bytes: &[u8],
-    from: &SocketAddr,
-    sieve: Sieve<'_>,
-    notices: &mut Notices,
-) -> Came
+fn take_notice(bytes: &[u8], from: &SocketAddr, sieve: Sieve<'_>, notices: &mut Notices) -> Came
     ensures { BecameNotice sieve.entry.seats.now sieve.entry.members.now sieve.entry.is_open
         from.now bytes.now notices.old notices.new result }
 {
@@ -286,10 +291,12 @@ fn take_notice(
 
 /// Whether the notice may come from this address.
 fn may_notify(sieve: Sieve<'_>, from: &SocketAddr, notice: Notice) -> bool
-    ensures { IsTrue result ↔ (MayNotify sieve.entry.seats.now sieve.entry.members.now
+    ensures yes { result ≡ true → MayNotify sieve.entry.seats.now sieve.entry.members.now
+        sieve.entry.is_open from.now notice }
+    ensures no { result ≡ false → ¬ (MayNotify sieve.entry.seats.now sieve.entry.members.now
         sieve.entry.is_open from.now notice) }
 {
-    if seat_of(sieve.seats, notice.member).is_some() {
+    if has_seat(sieve.seats, notice.member) {
         return false;
     }
     match sieve.members.get(notice.member as usize) {

@@ -2,7 +2,7 @@
 ghost use Rattle.std.specs.Prelude.{◌≡◌, ◌<◌, ◌++◌, [], IfErr, IfOk, IfSome, None, OnErr, OnOk, false, length, option_to_list, true};
 ghost use Rattle.datagram_ports.specs.Calls.{Received, Sent, told};
 ghost use Rattle.datagram_ports.specs.Kept.{counted, one_more};
-ghost use Rattle.udp.specs.Calls.{DoesOverUdp};
+ghost use Rattle.udp.specs.Calls.{DoesOverUdp, IsEmpty};
 ghost use Rattle.udp.specs.Inbox.{StillVouches, came_as, is_vouched_for};
 ghost use Rattle.udp.specs.Leaving.{IsLeft};
 ghost use Rattle.udp.specs.Notices.{NoticesGoOn, is_heard, is_notice};
@@ -96,6 +96,7 @@ impl<'c, C: Clock> UdpPort<'c, C> {
             × (length port.addresses.items ≡ members)) }
         ensures unsealed { IfOk result (λ port. (port.inbox.key ≡ None)
             × (port.outbox.key ≡ None)) }
+        ensures empty { IfOk result IsEmpty }
         ensures refused { IfErr result CannotStart }
     {
         UdpPort::together_behind(rt, clock, alloc, members, Guard::open())
@@ -123,6 +124,7 @@ impl<'c, C: Clock> UdpPort<'c, C> {
             × (port.is_open ≡ guard.is_open) × (port.front ≡ guard.front)) }
         ensures notices { IfOk result (λ port. (port.notices.key ≡ guard.seal)
             × (port.notices.listing ≡ guard.listing)) }
+        ensures empty { IfOk result IsEmpty }
         ensures refused { IfErr result CannotStart }
     {
         let mut seats = Vec::with_capacity(alloc, members as usize)?;
@@ -157,6 +159,7 @@ impl<'c, C: Clock> UdpPort<'c, C> {
         ensures addresses { IfOk result (λ port. port.addresses ≡ addresses) }
         ensures unsealed { IfOk result (λ port. (port.inbox.key ≡ None)
             × (port.outbox.key ≡ None)) }
+        ensures empty { IfOk result IsEmpty }
         ensures refused { IfErr result CannotStart }
     {
         UdpPort::alone_behind(rt, clock, alloc, addresses, me, patience, Guard::open())
@@ -186,6 +189,7 @@ impl<'c, C: Clock> UdpPort<'c, C> {
             × (port.is_open ≡ guard.is_open) × (port.front ≡ guard.front)) }
         ensures notices { IfOk result (λ port. (port.notices.key ≡ guard.seal)
             × (port.notices.listing ≡ guard.listing)) }
+        ensures empty { IfOk result IsEmpty }
         ensures refused { IfErr result CannotStart }
     {
         let mut seats = Vec::with_capacity(alloc, 1)?;
@@ -263,11 +267,9 @@ fn port_of<'c, C: Clock>(
     patience: Patience,
     guard: Guard,
 ) -> Result<UdpPort<'c, C>, PortFault>
-    ensures fresh { IfOk result (λ port. (port.failures ≡ 0) × (port.sends ≡ 0)
-        × (port.hurry ≡ Hurry.Patient)) }
+    ensures empty { IfOk result IsEmpty }
     ensures seats { IfOk result (λ port. port.seats ≡ seats) }
     ensures addresses { IfOk result (λ port. port.addresses ≡ addresses) }
-    ensures leaving { IfOk result (λ port. port.leaving.waiting.items ≡ []) }
     ensures sealed { IfOk result (λ port. (port.inbox.key ≡ guard.seal)
         × (port.outbox.key ≡ guard.seal)) }
     ensures guard { IfOk result (λ port. (port.most ≡ guard.most)

@@ -4,7 +4,7 @@ ghost use Rattle.udp.specs.Notifying.{AreNotified, IsNotified};
 ghost use Rattle.udp.specs.Ways.{in_line};
 
 use crate::line::Line;
-use crate::sockets::{Seat, Way, seat_of, way_of};
+use crate::sockets::{Seat, Way, has_seat, way_of};
 use crate::tallies::Tallies;
 use std::alloc::Global;
 use std::net::SocketAddr;
@@ -54,7 +54,7 @@ fn notify(
     let Some(way) = way_of(seats, addresses, from, to) else {
         return;
     };
-    if seat_of(seats, to).is_some() {
+    if has_seat(seats, to) {
         return;
     }
     if !is_put(alloc, way, bytes, leaving) {
