@@ -34,7 +34,7 @@ use Rattle.stable_record.specs.History.{History, seen}
 use Rattle.stable_record.specs.Opening.{HasOneAnswer, Opens, OpensAsLeft}
 use Rattle.stable_record.specs.RealFile.{file_agrees, file_history}
 use Rattle.stable_record.specs.declared.file_disk.FileDisk.{FileDisk}
-use Rattle.udp.specs.Calls.{setup_of}
+use Rattle.udp.specs.Calls.{IsEmpty, setup_of}
 use Rattle.udp.specs.Hosts.{IsFirstBad, WriteHosts}
 use Rattle.udp.specs.Inbox.{is_vouched_for}
 use Rattle.udp.specs.Leaving.{texts_of as texts_that_wait}
@@ -171,13 +171,14 @@ pub record IsSeated (of : RunOf) (me : ℕ) (port : UdpPort LibcRuntime) : Type 
 
 -- A start in the run was made for the member, in a folder in which a read of its run file gave
 -- this, and about whose log this is supposed. The port is its own and accepts only what the run
--- allows.
+-- allows. Nothing came there or left yet, and nothing waits.
 pub record HasBegun (gave : Option Text → Type 0) (known : History) (of : RunOf) (me : ℕ)
     (begun : Begun) : Type 0 where
   pub started : IsStarted gave known (owner of.tree of.weights me) (shown_of of.key)
       of.is_continued begun.start.disk (option_map string_bytes begun.start.unwritten)
   pub seated : IsSeated of me begun.port
   pub guarded : IsGuarded of begun.port
+  pub empty : IsEmpty begun.port
 
 -- `Is` holds of the state of the member's node when it was opened on the log of a start in the run,
 -- with a port of its own that accepts only what the run allows.

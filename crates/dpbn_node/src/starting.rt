@@ -33,6 +33,7 @@ ghost use Rattle.dpbn_node.specs.Runs.{
 ghost use Rattle.dpbn_node.specs.Keys.{IsKeyOf, seal_of};
 ghost use Rattle.run_file.specs.Looking.{IsOwn};
 ghost use Rattle.program_io.specs.Refusals.{memory_refusal};
+ghost use Rattle.udp.specs.Calls.{IsEmpty};
 ghost use Rattle.udp.specs.Ways.{IsSeatOf};
 
 use crate::{Sealing, identity_of, key_of_words, start_of, write_unwritten};
@@ -244,6 +245,7 @@ fn port_of<'c>(
         × (port.outbox.key ≡ guard.seal)) }
     ensures open { IfOk result (λ port. port.is_open ≡ guard.is_open) }
     ensures notices { IfOk result (λ port. port.notices.listing ≡ guard.listing) }
+    ensures empty { IfOk result IsEmpty }
     ensures refused { IfErr result (λ r. (r ≡ memory_refusal) ⊎ (r ≡ socket_refusal)) }
 {
     match UdpPort::alone_behind(rt, rt, rt.alloc(), addresses, me, patience, guard) {
