@@ -48,8 +48,8 @@ abbrev pub IsTextOf : Option Text → Option Listing → Notice → Text → Typ
 IsTextOf key None notice text = ⊥
 IsTextOf key (Some listing) notice text = text ≡ came_as key (notice_text listing.digest notice)
 
--- A use sends these texts away: a call those that it sends by itself, a notice that is sent its text,
--- any number of times, and a notice that is taken none.
+-- A use sends these texts away: a call those that it sends by itself; a notice that is sent its
+-- text, any number of times; and a notice that is taken none.
 abbrev pub SendsAway : List Seat → Option Text → Option Listing → Use → List Text → Type 0
 SendsAway seats key listing (Called call) texts = AreSentAway seats key (call ∷ []) texts
 SendsAway seats key listing (Notified notice) texts =
