@@ -98,8 +98,9 @@ fn build_on<E: Write>(
 {
     let telling = Telling::new(rt.alloc(), me, None, place.sealing.is_watched());
     let folder: SystemFolder<'_, SupposedEmpty> = SystemFolder::at(rt, site.dir);
-    let units = Units::new(rt.alloc(), tree)?.len();
-    let begun = begin(rt, tree, weights, &folder, me, place.with_notices(units))?;
+    let mut place = place;
+    place.units = Some(Units::new(rt.alloc(), tree)?.len());
+    let begun = begin(rt, tree, weights, &folder, me, place)?;
     let Begun { start, port } = begun;
     let Start { disk, unwritten } = start;
     let mut disk = disk;
