@@ -32,7 +32,7 @@ module _ (i : Identity) (before after : FileDisk)
     lacks_fresh found agrees =
         inr (subst (λ h. IsFound i (seen h) Fresh) (sym (same agrees)) (found agrees))
 
--- what is told of one owner's log is told of the other's, which is the same
+-- a refusal of one owner's log is a refusal of the other's, which is the same
 pub start_refusal : (i j : Identity) → i ≡ j → (r : Refusal)
     → ((shown : Option Text) (is_continued : Bool)
     → IsStartRefusal AnyMode AnyRunFile i shown is_continued r)

@@ -25,15 +25,16 @@ use Rattle.stable_record.specs.RealFile.{file_agrees, file_history}
 use Rattle.stable_record.specs.declared.file_disk.FileDisk.{FileDisk}
 use Rattle.stable_record.specs.declared.identity.Identity.{Identity}
 use Rattle.udp.specs.Calls.{DoesOverUdp}
+use Rattle.udp.specs.Notifying.{HasNotified}
 
 -- ---- what is printed
 
 -- Some turns led from one state of the node to another, in which it ends; and then the port handed
--- the system all datagrams that were queued to be sent.
+-- the system all datagrams that were queued to be sent. Between turns only notices came and left.
 pub record HasBuilt (rest : Option ℕ) (old new : Running) : Type 0 where
   pub last : Running
   pub turned : HaveTurned file_agrees file_history (λ disk. disk.failures) (λ port. None)
-      (λ port. None) DoesOverUdp port_vouches
+      (λ port. None) DoesOverUdp port_vouches HasNotified
       (λ port hurry. record port { hurry = hurry }) rest old last
   pub flushed : HasFlushed last new
 

@@ -28,7 +28,7 @@ use dpbn_node::{
     Begun, Place, Solo, SystemKeys, Telling, begin, identity_of, place_of_words, solo_on_log,
     weights_of_words,
 };
-use engine::Counts;
+use engine::{Counts, Units};
 use job_folder::Folder;
 use listing::Tree;
 use program_io::{Answer, Refusal, node_text, tree_of_file};
@@ -42,6 +42,9 @@ use udp::UdpPort;
 
 /// For how many seconds a unit is left to another member by default.
 const TAKEOVER: u32 = 600;
+
+/// At how many members a unit's build may fail by default.
+const TRIES: u8 = 2;
 
 /// Runs the member's node until it is down or at rest, and returns its line. The status is 0 if all
 /// that isn't ignored is held, and 3 otherwise. Faults of turns and of the work folder are printed
@@ -95,6 +98,8 @@ fn build_on<E: Write>(
 {
     let telling = Telling::new(rt.alloc(), me, None, place.sealing.is_watched());
     let folder: SystemFolder<'_, SupposedEmpty> = SystemFolder::at(rt, site.dir);
+    let mut place = place;
+    place.units = Some(Units::new(rt.alloc(), tree)?.len());
     let begun = begin(rt, tree, weights, &folder, me, place)?;
     let Begun { start, port } = begun;
     let Start { disk, unwritten } = start;
@@ -127,13 +132,14 @@ pub fn has_notes(disk: &mut FileDisk, owner: &Identity) -> Result<bool, Refusal>
     }
 }
 
-/// The work between the node's turns. The node has the work folder to itself.
+/// The work between the turns of the member's node, which has the work folder to itself.
+/// `has_notes` says whether the node's log has notes.
 ///
 /// # Errors
 ///
 /// The system refused to open the work folder or to read the clock; the folder has files although
 /// the node's log has no notes; or others may write in it.
-fn office_of<'f>(
+pub fn office_of<'f>(
     rt: &HostRuntime,
     site: &Site<'f>,
     me: u8,
@@ -145,7 +151,7 @@ fn office_of<'f>(
     let folder = folder_of(rt, site.work, me, has_notes)?;
     let now = Instant::now(rt)?;
     let takeover = site.takeover.unwrap_or(TAKEOVER);
-    let pace = pace_of(site.jobs, takeover);
+    let pace = pace_of(site, takeover);
     Ok(Office {
         desk: Desk::new(rt.alloc(), folder, pace, has_notes, now),
         pacing: Pacing::new(now),
@@ -177,14 +183,15 @@ fn folder_of<'f>(
     }
 }
 
-/// The waits of a node that builds `jobs` units at a time, by default one, and leaves the units of
-/// other members to them for `takeover` seconds.
-fn pace_of(jobs: Option<u8>, takeover: u32) -> Pace {
+/// How many units are built here at a time, by default one; at how many members a unit's build may
+/// fail; and the waits. The units of other members are left to them for `takeover` seconds.
+fn pace_of(site: &Site<'_>, takeover: u32) -> Pace {
     Pace {
-        jobs: u32::from(jobs.unwrap_or(1)),
+        jobs: u32::from(site.jobs.unwrap_or(1)),
         ask: Duration::from_secs(1),
         takeover: Duration::from_secs(u64::from(takeover)),
         slot: Duration::from_millis(250),
+        tries: site.tries.unwrap_or(TRIES),
     }
 }
 

@@ -74,8 +74,8 @@ pub record HasStarted (tree : Tree) (weights : List ℕ) (old new : Programs) : 
   pub places : new.places ≡ slice_set old.places number (Runs state)
   pub offered : new.offered ≡ old.offered
 
--- Between two turns only a program's port changed: it was told how long to wait, or it handed what
--- was queued to the system.
+-- Between two turns only a program's port changed: notices of failed builds came or left, it was
+-- told how long to wait, or it handed what was queued to the system.
 pub record HasWaited (old new : Programs) : Type 0 where
   pub number : ℕ
   pub state : Running

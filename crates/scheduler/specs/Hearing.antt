@@ -5,7 +5,7 @@ use Rattle.std.specs.declared.time.Instant.{Instant}
 use Rattle.claims.specs.Claims.{claim_same}
 use Rattle.claims.specs.declared.claim.Claim.{Claim}
 use Rattle.ballots.specs.declared.message.Body.{Body}
-use Rattle.ballots.specs.declared.message.Body.TheVariants.{Ask, Nay}
+use Rattle.ballots.specs.declared.message.Body.TheVariants.{Ask, Nay, Offer}
 use Rattle.ballots.specs.declared.message.Message.{Message}
 use Rattle.engine.specs.Division.{number_found}
 use Rattle.faults.specs.Bytes.{Text}
@@ -15,7 +15,9 @@ use Rattle.protocol.specs.State.{State, Value, facts_at}
 use Rattle.wire.specs.Reading.{datagram_of}
 use Rattle.wire.specs.declared.datagram.Datagram.TheVariants.{Whole}
 use Rattle.scheduler.specs.Waiting.{has_waited, since_promised}
+use Rattle.scheduler.specs.Tries.{after_notice, after_offer, is_counted}
 use Rattle.scheduler.specs.declared.desk.Desk.{Desk}
+use Rattle.scheduler.specs.declared.failures.Failures.{Failures}
 use Rattle.scheduler.specs.declared.heard.GivenBack.{GivenBack}
 use Rattle.scheduler.specs.declared.heard.Named.{Named}
 
@@ -64,6 +66,14 @@ back_after s d u sender Ask now old =
     with_back (given_by s d u sender now (facts_at s u).promised) now old
 back_after s d u sender _ now old = old
 
+-- ---- where else builds failed
+
+-- What is known of where else builds of a unit failed, once its message came: an offer may say that
+-- its member tries again.
+abbrev pub failures_after : State → ℕ → Body Value → Option Failures → Option Failures
+failures_after s u (Offer claim) old = after_offer (facts_at s u).promised claim old
+failures_after s u _ old = old
+
 -- ---- messages
 
 -- by unit, this, of the unit that was spoken of; and what was, of each other one
@@ -79,11 +89,15 @@ pub record HearsOf (s : State) (now : Instant) (m : Message Value) (u : ℕ) (ol
     pub given_back : (v : ℕ) → get nat_eq new.given_back v
         ≡ put (get nat_eq old.given_back) u
         (back_after s old u m.sender m.body now (get nat_eq old.given_back u)) v
+    pub failed_elsewhere : (v : ℕ) → get nat_eq new.failed_elsewhere v
+        ≡ put (get nat_eq old.failed_elsewhere) u
+        (failures_after s u m.body (get nat_eq old.failed_elsewhere u)) v
 
 -- So it does of the unit that the message names, if there is one; else all stays.
 abbrev pub HearsMessage : State → Instant → Message Value → Option ℕ → Desk → Desk → Type 0
 HearsMessage s now m None old new =
     (new.named ≡ old.named) × (new.given_back ≡ old.given_back)
+    × (new.failed_elsewhere ≡ old.failed_elsewhere)
 HearsMessage s now m (Some u) old new = HearsOf s now m u old new
 
 -- How long a datagram may be that is read: longer than any question or nay.
@@ -95,3 +109,15 @@ abbrev pub Hears : State → Instant → Text → Desk → Desk → Type 0
 Hears s now bytes old new =
     (m : Message Value) → datagram_of bytes ≡ Ok (Whole m) → length bytes ≤ longest
     → HearsMessage s now m (number_found s.division m.path) old new
+
+-- ---- notices
+
+-- The desk keeps of a notice of this member for the unit that a build failed there, if it counts;
+-- else all stays.
+abbrev pub HearsNotice : State → ℕ → ℕ → Desk → Desk → Type 0
+HearsNotice s from u old new =
+    (v : ℕ) → get nat_eq new.failed_elsewhere v
+    ≡ (if is_counted s from u
+    then put (get nat_eq old.failed_elsewhere) u
+    (after_notice from (facts_at s u).promised (get nat_eq old.failed_elsewhere u)) v
+    else get nat_eq old.failed_elsewhere v)

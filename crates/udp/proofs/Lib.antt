@@ -1,5 +1,10 @@
 mod FirstBad
 mod InboxLemmas
+mod NoticeLemmas
+mod NoticeTexts
+mod NotifyLemmas
+pub mod Notified
+mod UsedPort
 mod Coming
 mod RequestLemmas
 mod Leaving

@@ -35,6 +35,7 @@ returns-clause-built g c =
               c.in_ok-is_noted.ensures.kept c.in_ok-is_noted.ensures.same has.started;
           seated = has.seated;
           guarded = has.guarded;
+          empty = has.empty;
         };
         opened = built;
       },
