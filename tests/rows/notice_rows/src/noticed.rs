@@ -185,7 +185,7 @@ fn reads_in_order_and_drops_the_rest(rt: HostRuntime) -> Result<(), Fail> {
     match three.port.receive()? {
         Some((node, bytes)) => {
             assert_eq!(rt; node, 0);
-            assert!(rt; bytes.as_slice() == b"DPB1");
+            assert!(rt; bytes.as_slice() == b"DPB1".as_slice());
         }
         None => assert!(rt; false),
     }
