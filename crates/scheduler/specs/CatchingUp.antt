@@ -16,10 +16,11 @@ has_caught_up s d now next =
     || (is_over d.pace.slot d.asked_at now && (not (is_held_any s d.last) || not (is_some next)))
 
 -- It catches up still: it did before, and hasn't caught up now.
-abbrev pub StillCatchesUp : State → Desk → Instant → Bool → Type 0
-StillCatchesUp s d now still =
-    (next : Option ℕ) × IsNextAsked s d 0 next
-    × (still ≡ (d.is_catching_up && not (has_caught_up s d now next)))
+pub record StillCatchesUp (s : State) (d : Desk) (now : Instant) (still : Bool) : Type 0
+  where
+    pub none : d.is_catching_up ≡ false → still ≡ false
+    pub some : d.is_catching_up ≡ true
+        → (next : Option ℕ) × IsNextAsked s d 0 next × (still ≡ not (has_caught_up s d now next))
 
 -- Units may still be left that were the member's before its start: some may have been before, and
 -- either the desk catches up, or a package is queued whose unit is the member's own and may be

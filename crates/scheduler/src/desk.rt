@@ -202,8 +202,11 @@ impl<'f> Desk<'f> {
     fn still_catches_up(&self, member: &Member<'_>, now: Instant) -> bool
         ensures { StillCatchesUp member.now self.now now result }
     {
+        if !self.is_catching_up {
+            return false;
+        }
         let next = self.next_asked(member, 0);
-        self.is_catching_up && !self.has_caught_up(member, now, next)
+        !self.has_caught_up(member, now, next)
     }
 
     /// Whether it has caught up, if this is the first to ask for. Either there is nobody to ask; or
