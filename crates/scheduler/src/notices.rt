@@ -78,7 +78,7 @@ fn if_failed(failed: &IndexMap<u32, Name>, unit: u32) -> Option<u32>
     }
 }
 
-/// The place, or the first one if there aren't so many.
+/// The place, or the first one if it is past the last.
 fn place_in(place: usize, count: usize) -> usize
     ensures { result ≡ place_in place count }
 {

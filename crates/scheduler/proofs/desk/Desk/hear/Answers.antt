@@ -1,4 +1,4 @@
-use Rattle.std.proofs.Common.{◌≤◌, absurd, arith, inl, inr, length}
+use Rattle.std.proofs.Common.{◌≤◌, ◌∙◌, Ok, ap, arith, inl, inr, length}
 use Rattle.std.proofs.lemmas.Result.{on_ok_weaker}
 use Rattle.scheduler.specs.Hearing.{longest}
 use Rattle.scheduler.proofs.KeptUnits.{heard_fault, heard_long, heard_piece, heard_whole}
@@ -18,7 +18,8 @@ returns-then-bytes-gt-LONGEST-clause-heard c =
     heard_long c.args.member.now c.args.now c.args.bytes.now c.args.self.now (omega arith)
 
 pub returns-in-Ok-Piece-clause-heard : goal.returns-in-Ok-Piece-clause-heard
-returns-in-Ok-Piece-clause-heard c = ?
-
-pub returns-in_default-clause-heard : goal.returns-in_default-clause-heard
-returns-in_default-clause-heard c = ?
+returns-in-Ok-Piece-clause-heard c =
+    let short : length c.args.bytes.now ≤ longest = omega arith in
+    heard_piece c.args.member.now c.args.now c.args.bytes.now c.args.self.now
+    c.in-Ok-Piece.field-0-0 short
+    (c.in-Ok-Piece.ensures.exact ∙ ap Ok c.in-Ok-Piece.field-0-is)
