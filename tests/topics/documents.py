@@ -33,8 +33,11 @@ WRITTEN = 2500
 # when there are fewer.
 WORDS_BEFORE, SENTENCES_BEFORE = 5347, 518
 MOST_WORDS, MOST_SENTENCES = 215, 36
-# Lines that a renaming made too long. To break them would have all crates above proved again, so that is done at their next change.
-TOO_WIDE: Set[str] = set()
+# Files with lines that are too long. To break them would have all crates above proved again, so that is done at their next change.
+TOO_WIDE = {"crates/laws/specs/BuildPrograms.antt", *(f"crates/scheduler/{it}" for it in (
+    "specs/CatchingUp.antt", "specs/Taking.antt", "specs/Wishing.antt", "src/desk/free.rt", "src/desk/noticing.rt", "src/lib.rt"))}
+# Files with definitions that are too long, likewise.
+TOO_LONG = {"crates/scheduler/specs/Keeping.antt", "crates/scheduler/specs/Tries.antt"}
 # Lemmas that are public although no other crate cites them since crates were merged, likewise.
 NOT_CITED = {"seals": {"Lengths"}, "scheduler": {"Named"}}
 
@@ -139,7 +142,8 @@ def to_believe(tally: Tally) -> None:
     for crate in crates():
         for path in generated_docs.definition_files(crate):
             long = [start for start, length in definitions(path) if length > LONGEST]
-            tally.add(os.path.relpath(path, TOP), f"definitions at {long} have more than {LONGEST} lines" if long else "")
+            name = os.path.relpath(path, TOP)
+            tally.add(name, f"definitions at {long} have more than {LONGEST} lines" if long and name not in TOO_LONG else "")
 
 
 def wrong_bodies(tally: Tally) -> None:
