@@ -50,6 +50,7 @@ bench: all
 	-bench/live
 	-bench/bulk
 	-bench/latency
+	-bench/places
 	-bench/link
 	-bench/seals
 

@@ -67,6 +67,8 @@ def take_away() -> None:
         fcntl.flock = without_flock  # type: ignore[assignment]
     for name in ("stat", "lstat", "readlink"):
         setattr(os, name, checked(getattr(os, name)))
+    # calls of Linux that Python has no name for are made by this one
+    sys.modules["ctypes"] = None  # type: ignore[assignment]
     sys.addaudithook(without_folders)
 
 

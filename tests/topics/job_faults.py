@@ -256,6 +256,60 @@ def supervisors_that_are_killed(tally):
         add(tally, "a supervisor that is killed", told and gone and left == ([], [], [name]), driver.lines(), left)
 
 
+# a build that notes whether another one of its unit runs next to it, and ends a while after it was asked to
+ALONE = ('mkdir "$TOP/runs" || echo > "$TOP/twice"; trap \'sleep 1; rmdir "$TOP/runs"; exit 1\' TERM; echo $$ > "$TOP/pid"; '
+         'until [ -e "$TOP/go" ]; do sleep 0.05; done; rmdir "$TOP/runs"; ' + MAKE)
+# how it is run: as it is; by a command that closes what it was given, as ssh does; next to the first process of its group
+WAYS = {"": 'eval "$ALONE"', ", and a command that closes its files": 'exec python3 -c "import os; os.closerange(3, 256); os.execvp(\'sh\', [\'sh\', \'-c\', os.environ[\'ALONE\']])"',
+        ", and a first process that ends": 'sh -c "$ALONE" & wait'}
+
+
+def killed_with_their_supervisors(tally):
+    """A build whose driver and supervisor are killed together isn't begun again next to itself: the next driver ends it first."""
+    for what, way in WAYS.items():
+        script, env = f'echo $PPID > "$TOP/supervisor"; {way}', {"ALONE": ALONE}
+        with laid(script, "--grace", "60", env=env) as (node, driver):
+            name = node.post("a/b")
+            until(lambda: has_text(f"{node.folder}/pid") and has_text(f"{node.folder}/supervisor"))
+            supervisor, first = int(read(f"{node.folder}/supervisor")), int(read(f"{node.folder}/pid"))
+            # neither of them sees that the other one is gone
+            os.kill(supervisor, signal.SIGSTOP)
+            driver.end(signal.SIGKILL)
+            os.kill(supervisor, signal.SIGKILL)
+            if what.endswith("ends"):
+                os.kill(os.getpgid(first), signal.SIGKILL)
+            again = Driver(node, script, "--grace", "60", env=env)
+            told = again.tells("= a build of a/b goes on without its supervisor, which an earlier run began: it is ended")
+            is_begun = until(lambda: again.begun("a/b") == 1) and until(lambda: read(f"{node.folder}/pid") not in ("", f"{first}\n"))
+            add(tally, f"a driver and a supervisor that are killed{what}", told and is_begun and not os.path.exists(f"{node.folder}/twice"), again.lines())
+            dropped = "- a/b: its supervisor was killed" in again.lines() and not os.listdir(f"{node.work}/failed")
+            with open(f"{node.folder}/go", "w"):
+                made = node.take(name)
+            add(tally, f"the same{what}, built again", dropped and bool(made) and not os.path.exists(f"{node.folder}/twice"), made, again.lines())
+            again.end()
+
+
+def parent_of(process):
+    """The number of a process's parent."""
+    return int(subprocess.run(["ps", "-o", "ppid=", "-p", str(process)], stdout=subprocess.PIPE, check=True).stdout)
+
+
+def killed_fork_server(tally):
+    """The process is killed that starts builds: what runs goes on, and the next one is started by another one."""
+    script = 'echo $PPID > "$TOP/supervisor.$(basename $PKGPATH)"; [ $PKGPATH = c/d ] || until [ -e "$TOP/go" ]; do sleep 0.05; done; ' + BUILD
+    with laid(script, "-j", "2") as (node, driver):
+        name = node.post("a/b")
+        until(lambda: has_text(f"{node.folder}/supervisor.b"))
+        server = parent_of(int(read(f"{node.folder}/supervisor.b")))
+        is_own = parent_of(server) == driver.process.pid
+        os.kill(server, signal.SIGKILL)
+        made = node.take(node.post("c/d"))
+        add(tally, "a fork server that is killed", is_own and bool(made) and driver.begun("c/d") == 1, driver.lines())
+        with open(f"{node.folder}/go", "w"):
+            made = node.take(name)
+        add(tally, "the same, what ran meanwhile", bool(made) and driver.begun("a/b") == 1 and not os.listdir(f"{node.work}/failed"), driver.lines())
+
+
 def locks_that_are_not_there(tally):
     """On a file system without locks, the touched lock shows that another one works on the folder."""
     refuse = ("import errno, fcntl, sys\nfcntl.flock = lambda *_: (_ for _ in ()).throw(OSError(errno.ENOLCK, 'No locks available'))\n"
@@ -306,10 +360,10 @@ def run_first(tally):
 
 
 def run_second(tally):
-    for one in (lines_that_nobody_reads, a_command_that_closes_its_files, places_after_a_kill, many_packages, supervisors_that_are_killed, stops):
+    for one in (lines_that_nobody_reads, a_command_that_closes_its_files, places_after_a_kill, many_packages, supervisors_that_are_killed, killed_fork_server, stops):
         tally.case(one)
 
 
 def run_third(tally):
-    for one in (a_build_that_cannot_be_ended, a_note_of_any_length, locks_that_are_not_there):
+    for one in (killed_with_their_supervisors, a_build_that_cannot_be_ended, a_note_of_any_length, locks_that_are_not_there):
         tally.case(one)

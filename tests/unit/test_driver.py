@@ -1,7 +1,11 @@
 """The driver's parts, one by one, with what the system may refuse."""
+import contextlib
+import errno
 import fcntl
 import hashlib
 import os
+import select
+import signal
 import stat
 import subprocess
 import threading
@@ -10,7 +14,8 @@ import time
 import pytest
 
 from dpbn_tools import log as logs
-from dpbn_tools.driver import build as builds, health as healths, held as helds, lines as all_lines, options as words, workfolder
+from dpbn_tools.driver import build as builds, changes, command as commands, groups, health as healths, held as helds, lines as all_lines
+from dpbn_tools.driver import options as words, workfolder
 from dpbn_tools.driver.build import Build, adopted, ended_by
 from dpbn_tools.driver.buildlogs import shift
 from dpbn_tools.driver.command import helper
@@ -21,6 +26,7 @@ from dpbn_tools.driver.job import Job, NoJob
 from dpbn_tools.driver.limits import BadLimits, read_limits
 from dpbn_tools.driver.lines import Lines
 from dpbn_tools.driver.posted import Posted
+from dpbn_tools.driver.supervisor import request_of, since_boot, text_of
 from dpbn_tools.driver.tasks import Tasks
 from dpbn_tools.driver.times import Times
 from dpbn_tools.driver.transfers import Hosts
@@ -237,12 +243,22 @@ def test_a_folder_that_cannot_be_laid_out_leaves_nothing(tmp_path, monkeypatch):
     assert os.listdir(f"{tmp_path}/work/build") == [] and os.listdir(f"{tmp_path}/work/begun") == []
 
 
-def test_a_folder_in_which_something_is_mounted_stays(tmp_path, monkeypatch):
+@pytest.mark.parametrize("is_linux", [True, False])
+def test_a_folder_in_which_something_is_mounted_stays(tmp_path, monkeypatch, is_linux):
     os.makedirs(tmp_path / "x" / "ports")
     with monkeypatch.context() as patched:
+        patched.setattr(builds, "mounted", lambda: [b"/", os.fsencode(tmp_path / "x" / "ports")] if is_linux else None)
         patched.setattr(builds, "printed_by", lambda *_: f"/dev/sd0a on {tmp_path}/x/ports type ffs (local)\n".encode())
         assert not any(builds.remove_folder(f"{tmp_path}/{it}") for it in ("x", "x/ports")) and (tmp_path / "x" / "ports").is_dir()
+        os.mkdir(tmp_path / "x" / "port")
+        assert builds.remove_folder(f"{tmp_path}/x/port")
     assert builds.remove_folder(f"{tmp_path}/x")
+
+
+def test_mounts_of_any_name(monkeypatch, tmp_path):
+    (tmp_path / "mountinfo").write_bytes(b"36 35 98:0 /r /a\\040b\\134c\\012 rw - ext3 /dev/root rw\n37 36 0:1 / /x shared:2 - tmpfs t rw\n")
+    monkeypatch.setattr(builds, "open", lambda *words: open(tmp_path / "mountinfo", *words[1:]), raising=False)
+    assert builds.mounted() == [b"/a b\\c\n", b"/x"]
 
 
 def test_a_folder_without_a_command_is_not_taken_over(tmp_path):
@@ -449,30 +465,87 @@ def test_a_look_at_the_lock_that_takes_long_does_not_end_a_driver(tmp_path):
 
 # ---- the supervisor
 
-SUPERVISOR = os.path.join(os.path.dirname(builds.__file__), "supervisor.py")
+@pytest.fixture
+def server(monkeypatch):
+    """A fork server of this test's own."""
+    own = commands.ForkServer()
+    monkeypatch.setattr(commands, "SERVER", own)
+    yield own
+    own.close()
+
+
+def wait_for(holds, seconds=240):
+    end = time.monotonic() + seconds
+    while not holds() and time.monotonic() < end:
+        time.sleep(0.02)
+    return holds()
+
+
+# as it is before a test has it refuse
+PROCESSES = groups.processes
+
+
+def is_running(number):
+    return any(it.number == number for it in PROCESSES())
 
 
 @pytest.mark.parametrize("without", ["", "import os; vars(os).pop('waitid', None); "])
-def test_what_a_command_leaves_is_killed(tmp_path, without):
+def test_what_a_command_leaves_is_killed(tmp_path, monkeypatch, server, without):
     """With waitid and without it, as on systems that haven't got it."""
-    code = f"{without}import runpy, sys; sys.argv = sys.argv[1:]; runpy.run_path({SUPERVISOR!r}, run_name='__main__')"
-    script = f"sleep 1000 & echo $! > {tmp_path}/left; exit 3"
-    life, held = os.pipe()
-    reads, writes = os.pipe()
-    process = subprocess.Popen(["python3", "-c", code, SUPERVISOR, "helper", str(life), str(writes), "2", "-", "sh", "-c", script], pass_fds=(life, writes))
-    os.close(writes)
-    text = b""
-    while not text.endswith(b"exit 3\n"):
-        part = os.read(reads, 100)
-        assert part
-        text += part
-    process.wait(240)
-    with pytest.raises(ProcessLookupError):
-        for _ in range(2400):
-            os.kill(int((tmp_path / "left").read_text()), 0)
-            time.sleep(0.05)
-    for number in (life, held, reads):
-        os.close(number)
+    (tmp_path / "supervisor").write_text(f"{without}import runpy; runpy.run_path({commands.SUPERVISOR!r}, run_name='__main__')\n")
+    monkeypatch.setattr(commands, "SUPERVISOR", f"{tmp_path}/supervisor")
+    command = helper(["sh", "-c", f"sleep 1000 & echo $! > {tmp_path}/left; exit 3"], None, dict(os.environ))
+    assert wait_for(command.poll) and command.result() == "exit 3"
+    assert wait_for(lambda: not is_running(int((tmp_path / "left").read_text())))
+
+
+REQUEST = "build", 2.5, "/w/build/a", "/w/build/a/obj", ["sh", "-c", "x y\n"], {"A": "b=c", "B": "", "\udcff": "\udcfe"}
+
+
+def test_a_request_is_what_was_asked_for():
+    its = request_of(text_of(*REQUEST))
+    assert its == ("build", 2.5, "/w/build/a", b"/w/build/a/obj", [b"sh", b"-c", b"x y\n"], {b"A": b"b=c", b"B": b"", b"\xff": b"\xfe"})
+
+
+def test_a_request_that_is_not_whole_is_none():
+    text = text_of(*REQUEST)
+    assert [request_of(text[:length]) for length in range(len(text))] == [None] * len(text)
+
+
+def test_a_fork_server_that_was_killed_is_started_again(tmp_path, server):
+    first = helper(["sh", "-c", f"until [ -e {tmp_path}/go ]; do sleep 0.05; done"], None, dict(os.environ))
+    assert wait_for(lambda: not first.poll() and first.group())
+    number = server.process.pid
+    server.process.kill()
+    assert wait_for(lambda: not is_running(number))
+    second = helper(["true"], None, dict(os.environ))
+    assert wait_for(second.poll) and second.has_succeeded() and server.process.pid != number
+    (tmp_path / "go").touch()
+    assert wait_for(first.poll) and first.has_succeeded()
+
+
+def test_a_fork_server_ends_with_its_driver(server):
+    server.prepare()
+    number = server.process.pid
+    assert is_running(number)
+    server.requests.close()
+    assert wait_for(lambda: not is_running(number))
+
+
+def test_no_process_that_ended_stays(server):
+    for _ in range(3):
+        command = helper(["true"], None, dict(os.environ))
+        assert wait_for(command.poll)
+    rows = [line.split() for line in subprocess.run(["ps", "-A", "-o", "ppid=", "-o", "stat="], stdout=subprocess.PIPE, check=True).stdout.decode().splitlines()]
+    assert wait_for(lambda: not any(parent == str(server.process.pid) and state.startswith("Z") for parent, state in rows))
+
+
+def test_what_cannot_be_started_is_an_error(monkeypatch, server):
+    """A supervisor that ends before it has read all of its request, or couldn't be forked."""
+    monkeypatch.setattr(commands, "text_of", lambda *_: b"")
+    command = helper(["true"], None, dict(os.environ))
+    with pytest.raises(OSError, match="no process can be started"):
+        command.wait_for_start()
 
 
 def test_a_command_that_cannot_be_started():
@@ -499,7 +572,8 @@ def test_a_helper_ends_with_its_driver(tmp_path):
             time.sleep(0.05)
 
 
-def test_a_command_that_has_ended_leaves_no_descriptor():
+def test_a_command_that_has_ended_leaves_no_descriptor(server):
+    server.prepare()
     before = sorted(number for number in range(64) if is_open(number))
     for _ in range(3):
         command = helper(["true"], None, dict(os.environ))
@@ -538,3 +612,136 @@ def test_a_full_disk_is_asked_again_though_no_job_is_there(tmp_path, monkeypatch
     own.look_at_rest()
     own.health.look()
     assert not os.path.exists(f"{tmp_path}/work/away")
+
+
+# ---- groups whose supervisor is gone
+
+@pytest.mark.parametrize("text, seconds", [("00:07", 7), ("12:34", 754), ("01:00:00", 3600), ("2-03:04:05", 183845)])
+def test_ages(text, seconds):
+    assert groups.age_of(text) == seconds
+
+
+@contextlib.contextmanager
+def a_group(script, *kept):
+    """A group of its own, of a shell that runs a script."""
+    process = subprocess.Popen(["sh", "-c", script], start_new_session=True, pass_fds=kept)
+    try:
+        yield process.pid, since_boot()
+    finally:
+        with contextlib.suppress(ProcessLookupError):
+            os.killpg(process.pid, signal.SIGKILL)
+        process.wait()
+
+
+def noted(number, began, lock="/nonexistent", is_own=False):
+    return groups.Group(f"{number} {began:.1f}\n", f"{lock}", is_own)
+
+
+def test_a_group_is_ended_if_its_first_process_is_as_old_as_noted():
+    with a_group("sleep 1000; true") as (number, began):
+        group = noted(number, began)
+        assert not group.has_ended(100)
+        assert wait_for(lambda: group.has_ended(100)) and not is_running(number)
+
+
+def test_a_group_that_ignores_a_signal_is_killed_after_its_grace(tmp_path):
+    with a_group(f"trap '' TERM; echo > {tmp_path}/up; while :; do sleep 0.1; done") as (number, began):
+        assert wait_for((tmp_path / "up").exists)
+        group, asked = noted(number, began), time.monotonic()
+        assert wait_for(lambda: group.has_ended(1)) and not is_running(number)
+        assert time.monotonic() >= asked + 1
+
+
+@pytest.mark.parametrize("has_ps", [True, False])
+def test_another_group_of_the_number_is_left_alone(monkeypatch, has_ps):
+    if not has_ps:
+        monkeypatch.setattr(groups, "processes", lambda: None)
+    with a_group("sleep 1000; true") as (number, began):
+        group = noted(number, began - 3600)
+        assert group.has_ended(0) and group.has_ended(0)
+        time.sleep(0.2)
+        os.killpg(number, 0)
+
+
+@pytest.mark.parametrize("has_ps", [True, False])
+def test_a_group_whose_first_process_ended_is_known_by_its_lock(tmp_path, monkeypatch, has_ps):
+    if not has_ps:
+        monkeypatch.setattr(groups, "processes", lambda: None)
+    lock = os.open(tmp_path / "begun", os.O_RDWR | os.O_CREAT)
+    fcntl.flock(lock, fcntl.LOCK_EX)
+    with a_group(f"sleep 1000 & echo $! > {tmp_path}/pid", lock) as (number, began):
+        os.close(lock)
+        assert wait_for(lambda: (tmp_path / "pid").exists() and (tmp_path / "pid").read_text().strip())
+        assert wait_for(lambda: not is_running(number))
+        assert noted(number, began).has_ended(100)
+        group = noted(number, began, tmp_path / "begun")
+        assert not group.has_ended(100)
+        assert wait_for(lambda: group.has_ended(100)) and not is_running(int((tmp_path / "pid").read_text()))
+
+
+@pytest.mark.parametrize("note", ["", " " * 127 + "\n", "0 1.0\n", "1 1.0\n"])
+def test_a_group_that_never_began_has_ended(note):
+    assert groups.Group(note, "/nonexistent", False).has_ended(0)
+
+
+# ---- what wakes the loop
+
+def is_woken(number):
+    return bool(select.select([number], [], [], 0)[0])
+
+
+@pytest.mark.skipif(not os.path.exists("/proc/sys/fs/inotify"), reason="there is no inotify here")
+def test_a_name_that_comes_or_goes_wakes_the_loop(tmp_path):
+    its = changes.Changes(f"{tmp_path}")
+    assert its.number >= 0 and not is_woken(its.number)
+    for change in ((tmp_path / ".new").touch, lambda: os.rename(tmp_path / ".new", tmp_path / "job"), (tmp_path / "job").unlink):
+        change()
+        assert is_woken(its.number)
+        its.look()
+        assert not is_woken(its.number)
+    its.look()
+    assert its.number >= 0
+
+
+def test_a_loop_that_nothing_can_wake_looks_more_often(tmp_path, monkeypatch):
+    monkeypatch.setattr(changes.Changes, "begin_inotify", lambda *_: (_ for _ in ()).throw(ImportError))
+    its = changes.Changes(f"{tmp_path}")
+    assert its.number == -1
+    its.look()
+    own, waits = driver(tmp_path), []
+    assert own.changes.number == -1
+    monkeypatch.setattr(select, "select", lambda *asked: waits.append(asked[3]) or ([], [], []))
+    own.wait()
+    own.stay_awake()
+    own.wait()
+    assert waits == [0.05, 0.02]
+
+
+class Queue:
+    """A kqueue that notes what it is asked for."""
+
+    asked: list = []
+
+    def fileno(self):
+        return 77
+
+    def control(self, events, most, timeout):
+        self.asked.append((events, most, timeout))
+        if len(self.asked) > 2:
+            raise OSError(errno.EBADF, "it is closed")
+        return []
+
+
+def test_a_kqueue_watches_the_folder(tmp_path, monkeypatch):
+    """As on the BSDs: played, since there is none here."""
+    words = {"kqueue": Queue, "kevent": lambda *of: of, "KQ_FILTER_VNODE": -4, "KQ_EV_ADD": 1, "KQ_EV_CLEAR": 32, "KQ_NOTE_WRITE": 2, "KQ_NOTE_EXTEND": 4}
+    for name, value in words.items():
+        monkeypatch.setattr(select, name, value, raising=False)
+    its = changes.Changes(f"{tmp_path}")
+    [[(watched, *of)], most, timeout] = Queue.asked[0]
+    assert its.number == 77 and (of, most, timeout) == ([-4, 33, 6], 0, 0) and os.path.samestat(os.fstat(watched), os.stat(tmp_path))
+    its.look()
+    assert its.number == 77 and Queue.asked[1] == (None, 64, 0)
+    its.look()
+    assert its.number == -1
+    os.close(watched)

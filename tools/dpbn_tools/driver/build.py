@@ -18,12 +18,13 @@ from dpbn_tools.folders import Packages
 from dpbn_tools.log import Record
 from dpbn_tools.paths import short_name
 from dpbn_tools.driver.command import Command
+from dpbn_tools.driver.groups import Group
 from dpbn_tools.driver.job import Job
 
 # how many bytes PACKAGES may have in the environment
 MAX_PACKAGES = 100_000
-# how long the status of a build is, as it is made when the build begins
-STATUS = b" " * 127 + b"\n"
+# how long the files are that the supervisor writes, as they are made when the build begins
+BLANK = b" " * 127 + b"\n"
 ENDED = re.compile(r"(exit|signal|refused) ([0-9]+) ([0-9]+\.[0-9]) (synced|unsynced)\n")
 
 
@@ -64,10 +65,23 @@ def printed_by(*words: str) -> bytes:
     return subprocess.run([found, *words[1:]], stdin=null, stdout=subprocess.PIPE, stderr=null, check=False).stdout
 
 
+def mounted() -> Optional[List[bytes]]:
+    """Where something is mounted, by Linux; None if it is another system."""
+    try:
+        with open("/proc/self/mountinfo", "rb") as file:
+            places = [line.split(b" ")[4] for line in file]
+    except (OSError, IndexError):
+        return None
+    return [re.sub(rb"\\([0-7]{3})", lambda found: bytes([int(found[1], 8)]), place) for place in places]
+
+
 def has_mounts(folder: str) -> bool:
     """Whether something is mounted on the folder or below it, as a build may have left it."""
-    printed, place = printed_by("mount"), os.path.realpath(folder)
-    return any(os.fsencode(f" on {place}{end}") in printed for end in "/ ")
+    place, places = os.fsencode(os.path.realpath(folder)), mounted()
+    if places is not None:
+        return any(it == place or it.startswith(place + b"/") for it in places)
+    printed = printed_by("mount")
+    return any(b" on " + place + end in printed for end in (b" ", b"/"))
 
 
 def remove_folder(folder: str) -> bool:
@@ -89,6 +103,7 @@ class Build:
     job, about       the job's text; the unit, the place and when it began, as JSON
     control          a FIFO that the supervisor reads as long as it runs
     status           how the command ended, by the supervisor
+    group            the command's process group, by its first process; all of them have the file open and locked
     names, packages, signatures  the files whose names the command gets
     """
 
@@ -96,6 +111,9 @@ class Build:
         self.job, self.slot, self.state = job, slot, State.LAYING
         self.folder = ""
         self.command: Optional[Command] = None
+        # the end of `control` by which its own driver asks the supervisor, and what may be left if that was killed
+        self.control = -1
+        self.group: Optional[Group] = None
         self.began, self.over = time.time(), 0.0
         self.ended: Optional[Ended] = None
         # why it is ended: the reason of its failure, or why nobody waits for it
@@ -107,6 +125,8 @@ class Build:
         self.made: Optional[Packages] = None
         self.text: Optional[List[str]] = None
         self.is_busy, self.due, self.is_reused = False, 0.0, False
+        # whether it is due once a file of it was pushed
+        self.awaits_push = False
         # when its limits are looked at again
         self.limits_due = 0.0
         # what is in DEPS, which of a build of an earlier run isn't known yet; and the key under which it is kept
@@ -129,7 +149,8 @@ class Build:
         self.write("job", self.job.text)
         self.write("packages", b"".join(path + b"\n" for path in self.job.packages))
         self.write("about", json.dumps({"job": self.job.name, "slot": self.slot, "began": self.began, "key": self.key}).encode())
-        self.write("status", STATUS)
+        for name in ("status", "group"):
+            self.write(name, BLANK)
         os.mkfifo(self.file("control"), 0o600)
 
     def write(self, name: str, text: bytes) -> None:
@@ -156,11 +177,17 @@ class Build:
 
     def start(self, words: List[str], log: int, grace: float, env: Dict[str, str], begun: int) -> None:
         """Starts the command. Somebody reads the FIFO from before it runs until its supervisor ends, which has `begun` open so long."""
-        control = os.open(self.file("control"), os.O_RDONLY | os.O_NONBLOCK | os.O_CLOEXEC)
+        watched = os.open(self.file("control"), os.O_RDONLY | os.O_NONBLOCK | os.O_CLOEXEC)
+        control = os.open(self.file("control"), os.O_WRONLY | os.O_NONBLOCK | os.O_CLOEXEC)
         try:
-            self.command = Command(words, "build", control, grace, self.folder, log, env, cwd=self.file("obj"), kept=(begun,))
-        finally:
+            command = Command(words, "build", watched, grace, self.folder, log, env, self.file("obj"), lambda: os.close(control), (begun,))
+        except BaseException:
             os.close(control)
+            raise
+        finally:
+            os.close(watched)
+        command.wait_for_start()
+        self.command, self.control = command, control
 
     # ---- once it runs
 
@@ -170,18 +197,19 @@ class Build:
 
     def ask_end(self) -> None:
         """Asks its supervisor to end it."""
-        if self.command:
-            self.command.ask_end()
-            return
         with contextlib.suppress(OSError):
+            if self.command:
+                if not self.command.is_gone():
+                    os.write(self.control, b"e")
+                return
             number = os.open(self.file("control"), os.O_WRONLY | os.O_NONBLOCK | os.O_CLOEXEC)
             try:
                 os.write(number, b"e")
             finally:
                 os.close(number)
 
-    def poll(self) -> bool:
-        """Whether the command has ended."""
+    def poll(self, grace: float) -> bool:
+        """Whether the command has ended. If its supervisor was killed, what is left of it is ended."""
         if self.command:
             if not self.command.poll():
                 return False
@@ -189,19 +217,38 @@ class Build:
         elif self.is_alive():
             return False
         self.ended = self.ended or self.status()
-        return True
+        if self.ended or self.is_noted():
+            return True
+        self.group = self.group or Group(self.noted_group(), self.file("group"), self.command is not None)
+        return self.group.has_ended(grace)
 
     def is_gone(self) -> bool:
         """Whether its supervisor is gone, too."""
         return self.command is None or self.command.is_gone()
 
+    def read(self, name: str) -> str:
+        """What a file has that the supervisor writes; nothing if it is gone."""
+        try:
+            with open(self.file(name), "rb") as file:
+                return file.read(len(BLANK)).decode("ascii", "replace")
+        except OSError:
+            return ""
+
     def status(self) -> Optional[Ended]:
         """How it ended, by its file; None if nobody saw how, or it was ended on request."""
-        try:
-            with open(self.file("status"), "rb") as file:
-                return ended_by(file.read(128).decode("ascii", "replace"))
-        except OSError:
-            return None
+        return ended_by(self.read("status"))
+
+    def is_noted(self) -> bool:
+        """Whether its supervisor saw its end."""
+        return bool(self.read("status").strip())
+
+    def noted_group(self) -> str:
+        """Which group it has, and since when."""
+        noted = self.read("group")
+        if not noted.strip() and self.command:
+            # the folder was taken away
+            return f"{self.command.group()} 0.0\n"
+        return noted
 
     def seconds(self) -> float:
         return self.ended.seconds if self.ended else max(0.0, time.time() - self.began)

@@ -12,6 +12,7 @@ from dpbn_tools.log import BadLog, Large
 from dpbn_tools.driver.build import Build, State, adopted, remove_folder
 from dpbn_tools.driver.build_steps import BuildSteps, Changed
 from dpbn_tools.driver.buildlogs import BuildLogs
+from dpbn_tools.driver.changes import Changes
 from dpbn_tools.driver.endings import Endings
 from dpbn_tools.driver.fetches import Fetches
 from dpbn_tools.driver.health import Health
@@ -28,12 +29,15 @@ from dpbn_tools.driver.tasks import Tasks
 from dpbn_tools.driver.times import Times
 from dpbn_tools.driver.workfolder import Replaced, WorkFolder
 
-# how long is waited between two looks, in seconds: for this many seconds after something went on, and else
-BUSY, LONGEST_BUSY, IDLE = 0.02, 5, 0.05
+# how long is waited between two looks, in seconds; and where nothing wakes the loop when a job comes, for this many seconds after
+# something went on
+IDLE, BUSY, LONGEST_BUSY = 0.05, 0.02, 5
 # before what the system refused is tried again, in seconds
 PATIENCE = 5
 # how often the files of a job that waits are looked at, and the free disk, in seconds
 FILES_EACH, POLL_EACH, FREE_EACH = 0.2, 1, 1
+# of how many files on that holds; fewer are looked at sooner after one came
+MANY_FILES = 100
 # how long a build that was asked to end may take beyond its grace before that is reported, in seconds
 LONGEST_END = 5
 # how long a build of an earlier run is kept that nobody asks for, in seconds
@@ -50,6 +54,7 @@ class Driver:
         work = os.path.realpath(asked.work)
         self.tasks = Tasks()
         self.work = WorkFolder(work)
+        self.changes = Changes(f"{work}/jobs")
         self.logs = BuildLogs(os.path.realpath(asked.logs or f"{work}/logs"), asked.keep_logs)
         self.store = Store(os.path.realpath(asked.store or f"{work}/store"), self.work.token(), self.tasks, lines.tell)
         # others may bring files there before this host has any
@@ -89,6 +94,10 @@ class Driver:
                 self.builds.append(build)
                 how = "goes on" if build.is_alive() else "is over"
                 self.lines.tell(f"= a build of {build.job} {how}, which an earlier run began")
+            elif build and not build.poll(self.asked.grace):
+                self.builds.append(build)
+                self.lines.tell(f"= a build of {build.job} goes on without its supervisor, which an earlier run began: it is ended")
+                self.end(build, "its supervisor was killed")
             elif not remove_folder(folder):
                 self.lines.tell(f"= {folder} can't be removed")
         running = {build.job.name for build in self.builds}
@@ -103,8 +112,7 @@ class Driver:
         self.guarded("log", self.look_at_log)
         self.guarded("store", self.store.look)
         self.guarded("fetches", self.fetches.look)
-        if self.pushes:
-            self.guarded("pushes", self.pushes.look)
+        self.guarded("pushes", self.look_at_pushes)
         self.guarded("jobs", self.look_at_jobs)
         self.guarded("builds", self.look_at_builds)
         self.guarded("limits", self.limits.look)
@@ -132,10 +140,13 @@ class Driver:
 
     def wait(self) -> None:
         """Waits until something may have happened."""
-        numbers = [self.tasks.reads]
+        numbers = [self.tasks.reads, self.changes.number]
         if time.monotonic() >= self.due.get("builds", 0.0):
-            numbers += [number for number in self.reports() if number >= 0]
-        woken, _, _ = select.select(numbers, [], [], BUSY if time.monotonic() < self.busy_until else IDLE)
+            numbers += self.reports()
+        is_busy = self.changes.number < 0 and time.monotonic() < self.busy_until
+        woken, _, _ = select.select([number for number in numbers if number >= 0], [], [], BUSY if is_busy else IDLE)
+        if self.changes.number in woken:
+            self.changes.look()
         if woken or self.tasks.running:
             self.stay_awake()
 
@@ -161,6 +172,13 @@ class Driver:
             self.lines.tell(f"? {self.held.path}: {bad}: it is read again")
             self.held.reopen()
             self.due["log"] = time.monotonic() + PATIENCE
+
+    def look_at_pushes(self) -> None:
+        """Has builds go on that wait for pushes once one has ended."""
+        if self.pushes and self.pushes.look():
+            for build in self.builds:
+                if build.awaits_push:
+                    build.due = 0.0
 
     # ---- jobs
 
@@ -233,8 +251,10 @@ class Driver:
             if not build.command:
                 # one of an earlier run is only seen by its FIFO
                 build.due = time.monotonic() + 0.3
-            if build.poll():
+            if build.poll(self.asked.grace):
                 self.endings.has_ended(build)
+            elif build.group and build.state is State.RUNNING:
+                self.ask_end(build)
             elif build.state is State.RUNNING:
                 self.check_limits(build)
                 self.check_posted(build)
@@ -323,7 +343,7 @@ class Driver:
             return False
         now = time.monotonic()
         if posted.unsure and now >= posted.files_due and (posted.version != self.store.version or now >= posted.poll_due):
-            posted.files_due, posted.version = now + FILES_EACH, self.store.version
+            posted.files_due, posted.version = now + FILES_EACH * min(1, len(posted.unsure) / MANY_FILES), self.store.version
             self.look_for_files(posted)
             # others may put files into the store: the more are missing, the longer it takes to look
             posted.poll_due = now + POLL_EACH + len(posted.unsure) / 1000
@@ -335,7 +355,9 @@ class Driver:
         now = time.monotonic()
         if needed is None:
             # the node posted it when it held all of that, so its log is read in a moment, or is another one
-            posted.due = now + FILES_EACH if self.held.is_read else 0.0
+            posted.due = now + FILES_EACH if self.held.is_read and posted.lacking_since is not None else 0.0
+            if posted.lacking_since is None:
+                self.tasks.wake()
             if posted.lacking_since is None or not self.held.is_read:
                 posted.lacking_since = now
             if now >= posted.lacking_since + PATIENCE:
@@ -447,8 +469,7 @@ class Driver:
         end = time.monotonic() + self.asked.grace + 1
         while time.monotonic() < end and any(self.is_wanted(build) for build in self.builds):
             self.tasks.look()
-            if self.pushes:
-                self.guarded("pushes", self.pushes.look)
+            self.guarded("pushes", self.look_at_pushes)
             self.due.pop("builds", None)
             self.guarded("builds", self.look_at_builds)
             self.wait()

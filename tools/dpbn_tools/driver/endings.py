@@ -2,7 +2,6 @@
 from __future__ import annotations
 
 import os
-import signal
 import time
 from typing import Callable, Dict, List, Optional
 
@@ -20,6 +19,8 @@ from dpbn_tools.driver.times import Times
 MOMENT = 1
 # before what the system refused is tried again, in seconds
 PATIENCE = 5
+# how often is looked whether the files of a build are pushed, besides when one was, in seconds
+PUSHES_EACH = 1
 ENDS = "this driver ends"
 
 
@@ -40,7 +41,7 @@ class Endings:
     # ---- a command has ended
 
     def has_ended(self, build: Build) -> None:
-        ended, was_asked = build.ended, build.state is State.ENDING
+        ended = build.ended
         build.state, build.over = State.OVER, time.monotonic()
         is_good = bool(ended and ended.how == "exit" and ended.number == 0)
         if build.dropped == ENDS and is_good:
@@ -49,9 +50,7 @@ class Endings:
         if build.dropped or build.failed or is_good:
             return
         if not ended:
-            # its supervisor was ended by somebody else, and can't end it any more
-            self.end_group(build)
-            self.give_back(build, "it was ended by somebody else" if was_asked or not build.command else "its supervisor was killed")
+            self.give_back(build, "its supervisor was killed" if build.group else "it was ended by somebody else")
         elif ended.how == "signal":
             self.give_back(build, f"signal {ended.number}")
         elif ended.how == "refused":
@@ -60,16 +59,6 @@ class Endings:
             self.give_back(build, f"status {TEMPFAIL}")
         else:
             build.failed, build.due = f"status {ended.number}", build.over + MOMENT
-
-    @staticmethod
-    def end_group(build: Build) -> None:
-        group = build.command.group() if build.command else 0
-        if group > 1:
-            try:
-                os.killpg(group, signal.SIGKILL)
-            except OSError:
-                # there is nothing left of it
-                pass
 
     def give_back(self, build: Build, why: str) -> None:
         """It ended for a reason of this host: nothing is marked, unless that happens to this unit alone again and again."""
@@ -98,9 +87,10 @@ class Endings:
         elif build.text is None:
             self.step(build, lambda: self.steps.examine(build, self.limits), lambda: None)
         elif self.is_pushed(build):
+            build.awaits_push = False
             self.step(build, lambda: self.steps.hand_in(build), lambda: self.handed_in(build))
         else:
-            build.due = time.monotonic() + 0.1
+            build.awaits_push, build.due = True, time.monotonic() + PUSHES_EACH
 
     def step(self, build: Build, work: Callable[[], None], then: Callable[[], None]) -> None:
         """Does a step next to the loop. What the system refuses is reported, and tried again in a while."""

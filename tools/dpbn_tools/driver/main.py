@@ -8,6 +8,7 @@ import sys
 from typing import Optional
 
 from dpbn_tools.log import BadLog
+from dpbn_tools.driver.command import SERVER
 from dpbn_tools.driver.driver import Driver
 from dpbn_tools.driver.limits import BadLimits
 from dpbn_tools.driver.lines import Lines
@@ -37,6 +38,7 @@ class Signals:
 def run(driver: Driver, signals: Signals) -> int:
     """Looks again and again until a signal comes. Returns its number."""
     hands_in = True
+    SERVER.prepare()
     try:
         driver.clear()
         while not signals.first:
@@ -47,6 +49,7 @@ def run(driver: Driver, signals: Signals) -> int:
         raise
     finally:
         driver.finish(hands_in)
+        SERVER.close()
     return signals.first
 
 

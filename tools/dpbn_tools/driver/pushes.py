@@ -20,13 +20,15 @@ class Pushes:
         self.there: Dict[str, Set[int]] = {}
         self.running: List[Tuple[Large, int, Command]] = []
 
-    def look(self) -> None:
-        """Takes note of what has ended."""
-        for large, host, command in [it for it in self.running if it[2].poll()]:
+    def look(self) -> bool:
+        """Takes note of what has ended. Returns whether anything has."""
+        ended = [it for it in self.running if it[2].poll()]
+        for large, host, command in ended:
             self.running.remove((large, host, command))
             self.hosts.ends(host, large.digest, command.has_succeeded())
             if command.has_succeeded():
                 self.there.setdefault(large.digest, set()).add(host)
+        return bool(ended)
 
     def is_done(self, large: Large) -> bool:
         return len(self.there.get(large.digest, ())) >= self.copies - 1

@@ -1,35 +1,85 @@
-"""Runs one command for the driver, as a process of its own that outlives the driver if need be.
+"""Starts commands for the driver, and supervises each, by a process of its own that outlives the
+driver if need be.
 
-    supervisor.py build CONTROL,BEGUN REPORT GRACE FOLDER COMMAND [ARGUMENT ..]
-    supervisor.py helper LIFE REPORT GRACE - COMMAND [ARGUMENT ..]
+    supervisor.py SOCKET
 
-The command runs in a process group of its own. When it ends, what is left of that group is killed. CONTROL, BEGUN, LIFE and REPORT are
-numbers of descriptors that the command doesn't get, so that it can't close them.
+This is a fork server: it waits for requests, forks a supervisor for each, and ends with its driver.
+A request is a byte in the socket with these descriptors: the request's text, what the supervisor
+watches, where it reports, what the command prints to, and those that the supervisor keeps open. The
+text has these fields, each with a zero byte after it:
 
-A build goes on without its driver. CONTROL reads the FIFO `control` in the build's folder: as long as this process runs somebody reads
-there, and a byte that is written there asks it to end the build. BEGUN is the file that shows the job as begun, which is locked as long
-as this process runs. After a build that ended with 0, the files below FOLDER/out are synced.
-How it ended is written into FOLDER/status, which the driver made as long as it has to be, so that a full disk can't keep it from that.
+    COUNT of the other fields, KIND, GRACE, FOLDER, working folder, NUMBER of words, WORD ..,
+    NAME=VALUE ..
 
-A helper ends with its driver: LIFE is the end of a pipe that the driver holds.
+KIND is `build` or `helper`. The command runs in a process group of its own. When it ends, what is
+left of that group is killed. It doesn't get what its supervisor has open, so it can't close that.
 
-To end a group, it gets SIGTERM, and SIGKILL if there is anything left of it GRACE seconds later. REPORT gets a line `group N` at the
-start, and a line like that of the status when the command has ended, before anything is synced; nothing if it was ended on request.
-It imports little, since it is started often."""
+A build goes on without its driver. Its supervisor watches the FIFO `control` in FOLDER: as long as
+it runs somebody reads there, and a byte that is written there asks it to end the build. It keeps
+the file open that shows the job as begun, which is locked. After a build that ended with 0, the
+files below FOLDER/out are synced. How it ended is written into FOLDER/status, or `asked` if it was
+asked to end.
+
+FOLDER/group has the number of the command's group, and how long the system ran when it began. The
+command has that file open and locked. So what is left of a build is known whose supervisor was
+killed. The driver made both files as long as they have to be: no full disk keeps anybody from
+writing them.
+
+A helper ends with its driver: its supervisor watches the end of a pipe that the driver holds.
+
+To end a group, it gets SIGTERM, and SIGKILL if there is anything left of it GRACE seconds later.
+The report is a line `group N` once the command is started, and a line like that of the status when
+it has ended, before anything is synced; nothing if it was ended on request."""
 from __future__ import annotations
 
+import array
 import errno
+import fcntl
 import os
 import select
 import signal
+import socket
 import sys
 import time
+from typing import Dict, List, NamedTuple
 
 # how often is looked for what is left of a group that is to end, in seconds
 PAUSE = 0.02
+# from which number on the command has the file of its group open: scripts use the small ones
+KEPT = 100
+# the most descriptors of a request
+MOST_NUMBERS = 8
 
 
-def start(command: list[str]) -> tuple[int, int]:
+class Request(NamedTuple):
+    """What is to be run, and how."""
+
+    kind: str
+    grace: float
+    folder: str
+    where: bytes
+    command: List[bytes]
+    env: Dict[bytes, bytes]
+
+
+def text_of(kind: str, grace: float, folder: str, where: str, command: List[str], env: Dict[str, str]) -> bytes:
+    """The text of a request."""
+    words = [kind, str(grace), folder, where, str(len(command)), *command, *(f"{name}={value}" for name, value in env.items())]
+    return b"".join(os.fsencode(field) + b"\0" for field in (str(len(words)), *words))
+
+
+def request_of(text: bytes) -> Request | None:
+    """The request that has this text; None if it isn't whole, since the driver was killed meanwhile."""
+    count, *fields = text.split(b"\0")
+    if not fields or fields.pop() or len(fields) != int(count):
+        return None
+    kind, grace, folder, where, words = fields[:5]
+    most = 5 + int(words)
+    env = {name: value for name, _, value in (field.partition(b"=") for field in fields[most:])}
+    return Request(kind.decode(), float(grace), os.fsdecode(folder), where, fields[5:most], env)
+
+
+def start(request: Request) -> tuple[int, int]:
     """Starts the command in a group of its own. Returns its number, and that of the error if it couldn't be started."""
     reads, writes = os.pipe()
     child = os.fork()
@@ -40,7 +90,9 @@ def start(command: list[str]) -> tuple[int, int]:
                 signal.signal(number, signal.SIG_DFL)
             if hasattr(signal, "SIGXFSZ"):
                 signal.signal(signal.SIGXFSZ, signal.SIG_DFL)
-            os.execvp(command[0], command)
+            if request.kind == "build":
+                note_group(f"{request.folder}/group")
+            os.execvpe(request.command[0], request.command, request.env)
         except OSError as error:
             os.write(writes, str(error.errno).encode())
         finally:
@@ -54,6 +106,24 @@ def start(command: list[str]) -> tuple[int, int]:
     told = os.read(reads, 16)
     os.close(reads)
     return child, int(told) if told else 0
+
+
+def since_boot() -> float:
+    """The seconds since the system was started, with those of its sleep if the system has a clock for that."""
+    return time.clock_gettime(getattr(time, "CLOCK_BOOTTIME", time.CLOCK_MONOTONIC))
+
+
+def note_group(path: str) -> None:
+    """Writes down which group this process leads, and since when. It and all that it begins keep the file open and locked."""
+    number = os.open(path, os.O_RDWR | os.O_CLOEXEC)
+    os.pwrite(number, f"{os.getpid()} {since_boot():.1f}\n".encode(), 0)
+    try:
+        fcntl.flock(number, fcntl.LOCK_EX | fcntl.LOCK_NB)
+        fcntl.fcntl(number, fcntl.F_DUPFD, KEPT)
+    except OSError:
+        # there are no locks there, or no such numbers here: the group is known by its first process alone
+        pass
+    os.close(number)
 
 
 def send(group: int, number: int) -> bool:
@@ -116,8 +186,8 @@ def sync_below(folder: str) -> bool:
 class Supervisor:
     """One command, and what was asked of it."""
 
-    def __init__(self, kind: str, watched: int, report: int, grace: float, folder: str) -> None:
-        self.kind, self.watched, self.report, self.grace, self.folder = kind, watched, report, grace, folder
+    def __init__(self, request: Request, watched: int, report: int) -> None:
+        self.request, self.watched, self.report = request, watched, report
         self.child, self.began = 0, time.monotonic()
         self.status: int | None = None
         self.is_asked = False
@@ -128,9 +198,9 @@ class Supervisor:
         for number in (signal.SIGTERM, signal.SIGHUP, signal.SIGINT):
             signal.signal(number, self.asked)
         signal.signal(signal.SIGCHLD, lambda *_: None)
-        if kind == "build":
+        if request.kind == "build":
             # with a writer of its own the FIFO never looks as if it had ended
-            self.own_end = os.open(f"{folder}/control", os.O_WRONLY | os.O_NONBLOCK)
+            self.own_end = os.open(f"{request.folder}/control", os.O_WRONLY | os.O_NONBLOCK)
 
     def asked(self, *_: object) -> None:
         self.is_asked = True
@@ -142,8 +212,8 @@ class Supervisor:
             # the driver is gone, or doesn't read
             pass
 
-    def run(self, command: list[str]) -> None:
-        self.child, refused = start(command)
+    def run(self) -> None:
+        self.child, refused = start(self.request)
         self.tell(f"group {self.child}\n")
         if refused:
             os.waitpid(self.child, 0)
@@ -154,6 +224,7 @@ class Supervisor:
             self.status = waited(self.child)
         if self.status is None:
             self.end()
+            self.note("asked")
         elif os.WIFSIGNALED(self.status):
             self.finish(f"signal {os.WTERMSIG(self.status)}")
         else:
@@ -174,13 +245,13 @@ class Supervisor:
                 pass
             # a byte in the FIFO, or the end of the driver's pipe
             self.is_asked = True
-            if self.kind == "helper":
+            if self.request.kind == "helper":
                 self.watched = self.wake
 
     def end(self) -> None:
         """Ends the group. The command may clean up, and what it began, too; nobody looks at how it ends."""
         send(self.child, signal.SIGTERM)
-        deadline, is_killed = time.monotonic() + self.grace, False
+        deadline, is_killed = time.monotonic() + self.request.grace, False
         status: int | None = None
         while True:
             if status is None:
@@ -198,32 +269,90 @@ class Supervisor:
 
     def finish(self, how: str) -> None:
         took = time.monotonic() - self.began
-        if self.kind == "build":
+        if self.request.kind == "build":
             # the driver goes on with what was made, while it is brought to the disk for one that comes after a stop
             self.tell(f"{how} {took:.1f} unsynced\n")
-            kept = how != "exit 0" or sync_below(f"{self.folder}/out")
-            how = f"{how} {took:.1f} {'synced' if kept else 'unsynced'}"
-            try:
-                number = os.open(f"{self.folder}/status", os.O_WRONLY)
-                os.pwrite(number, f"{how}\n".encode(), 0)
-                os.fsync(number)
-                os.close(number)
-            except OSError as error:
-                if error.errno != errno.ENOENT:
-                    print(f"supervisor: {self.folder}/status: {error}", file=sys.stderr)
+            kept = how != "exit 0" or sync_below(f"{self.request.folder}/out")
+            self.note(f"{how} {took:.1f} {'synced' if kept else 'unsynced'}")
         else:
             self.tell(f"{how}\n")
 
+    def note(self, how: str) -> None:
+        """Writes down how a build ended, for a driver that comes later."""
+        path = f"{self.request.folder}/status"
+        try:
+            if self.request.kind == "build":
+                number = os.open(path, os.O_WRONLY)
+                os.pwrite(number, f"{how}\n".encode(), 0)
+                os.fsync(number)
+                os.close(number)
+        except OSError as error:
+            if error.errno != errno.ENOENT:
+                os.write(2, os.fsencode(f"supervisor: {path}: {error}\n"))
 
-def main() -> None:
-    kind, watched, report, grace, folder, *command = sys.argv[1:]
-    numbers = [int(number) for number in watched.split(",")]
-    for number in (*numbers, int(report)):
-        os.set_inheritable(number, False)
-    Supervisor(kind, numbers[0], int(report), float(grace), folder).run(command)
-    # the driver goes on as soon as its pipe has an end
-    os._exit(0)
+
+def supervise(numbers: list[int]) -> None:
+    """Reads a request, and runs its command. The driver goes on as soon as the report has an end."""
+    text, watched, report, out = numbers[:4]
+    with open(text, "rb") as file:
+        request = request_of(file.read())
+    if not request:
+        return
+    os.setsid()
+    if request.where:
+        os.chdir(request.where)
+    for number in (1, 2):
+        os.dup2(out, number)
+    os.close(out)
+    Supervisor(request, watched, report).run()
+
+
+class ForkServer:
+    """What waits for requests."""
+
+    def __init__(self, number: int) -> None:
+        self.requests = socket.socket(fileno=number)
+        signal.signal(signal.SIGCHLD, self.reap)
+
+    @staticmethod
+    def reap(*_: object) -> None:
+        """Takes note of supervisors that have ended."""
+        try:
+            while os.waitpid(-1, os.WNOHANG)[0]:
+                pass
+        except ChildProcessError:
+            pass
+
+    def numbers(self) -> list[int] | None:
+        """The descriptors of the next request; None if the driver is gone."""
+        numbers = array.array("i")
+        text, more, _, _ = self.requests.recvmsg(1, socket.CMSG_SPACE(MOST_NUMBERS * numbers.itemsize))
+        for level, kind, data in more:
+            if (level, kind) == (socket.SOL_SOCKET, socket.SCM_RIGHTS):
+                numbers.frombytes(data[:len(data) - len(data) % numbers.itemsize])
+        for number in numbers:
+            os.set_inheritable(number, False)
+        return list(numbers) if text else None
+
+    def run(self) -> None:
+        while True:
+            numbers = self.numbers()
+            if numbers is None:
+                return
+            try:
+                child = os.fork()
+            except OSError:
+                # the driver sees that the report has an end before its begin
+                child = -1
+            if child == 0:
+                try:
+                    self.requests.close()
+                    supervise(numbers)
+                finally:
+                    os._exit(0)
+            for number in numbers:
+                os.close(number)
 
 
 if __name__ == "__main__":
-    main()
+    ForkServer(int(sys.argv[1])).run()
