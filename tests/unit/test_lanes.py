@@ -249,19 +249,18 @@ def test_a_process_that_ends_once(watch):
     assert [it.first_line() for it in tally.only_alone] == ["its process ended with status 3"]
 
 
-def test_what_runs_too_long(watch, monkeypatch):
+def test_what_runs_too_long(watch, monkeypatch, capfd):
     """A part that runs for too long is ended with what it started, and is a failure; the others run, and so does the gate for any time."""
     monkeypatch.setattr(lanes, "PAUSE", 0.05)
 
-    def run(tally):
-        if not turn_of(watch, "long"):
-            process = subprocess.Popen(["sleep", "600"])
-            (watch.folder / "pid").write_text(f"{process.pid}\n")
-            process.wait()
-        tally.add("that", "")
+    def run(_):
+        process = subprocess.Popen(["sleep", "600"])
+        (watch.folder / f"{process.pid}.pid").touch()
+        process.wait()
     tally = ran([watch.part("gate", 1, Kind.GATE, longest=0.5), Part("long", run, longest=2), watch.part("other", 3)])
-    assert (tally.passed, tally.names, [it.first_line() for it in tally.only_alone]) == (3, [], ["it ran for 2 s, and was ended then"])
-    assert until(lambda: not is_alive((watch.folder / "pid").read_text().strip()))
+    assert (tally.passed, tally.names, tally.only_alone) == (2, ["long"], [])
+    assert capfd.readouterr().out.count("FAILED: long: it ran for 2 s, and was ended then\n") == 2
+    assert until(lambda: not any(is_alive(it.stem) for it in watch.folder.glob("*.pid")))
 
 
 def test_a_name_that_comes_twice(watch):
