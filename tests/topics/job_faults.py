@@ -276,6 +276,8 @@ def killed_with_their_supervisors(tally):
             os.kill(supervisor, signal.SIGSTOP)
             driver.end(signal.SIGKILL)
             os.kill(supervisor, signal.SIGKILL)
+            # else the next driver may still find its lock
+            until(lambda: is_over(supervisor))
             if what.endswith("ends"):
                 os.kill(os.getpgid(first), signal.SIGKILL)
             again = Driver(node, script, "--grace", "60", env=env)
@@ -287,6 +289,12 @@ def killed_with_their_supervisors(tally):
                 made = node.take(name)
             add(tally, f"the same{what}, built again", dropped and bool(made) and not os.path.exists(f"{node.folder}/twice"), made, again.lines())
             again.end()
+
+
+def is_over(process):
+    """Whether a process has ended; somebody may still have to take note of it."""
+    state = subprocess.run(["ps", "-o", "stat=", "-p", str(process)], stdout=subprocess.PIPE, check=False).stdout.strip()
+    return not state or state.startswith(b"Z")
 
 
 def parent_of(process):
