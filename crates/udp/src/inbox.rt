@@ -3,7 +3,7 @@ ghost use Rattle.std.specs.Prelude.{◌≡◌, ◌≢◌, ◌++◌, ◌∷◌, [
 ghost use Rattle.udp.specs.Inbox.{Takes, came_as, is_vouched_for};
 
 use crate::line::{Line, Waiting};
-use crate::told::Told;
+use datagram_ports::Told;
 use seals::Seal;
 use std::alloc::Global;
 use std::marker::Model;

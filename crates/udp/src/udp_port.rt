@@ -1,6 +1,7 @@
 //! Ports over UDP.
-ghost use Rattle.std.specs.Prelude.{◌≡◌, ◌<◌, [], IfErr, IfOk, IfSome, None, OnErr, OnOk, length, true};
+ghost use Rattle.std.specs.Prelude.{◌≡◌, ◌<◌, ◌++◌, ◌∷◌, [], IfErr, IfOk, IfSome, None, OnErr, OnOk, length, true};
 ghost use Rattle.datagram_ports.specs.Calls.{Received, Sent, told};
+ghost use Rattle.datagram_ports.specs.Granted.{IsGranted};
 ghost use Rattle.datagram_ports.specs.Kept.{counted, one_more};
 ghost use Rattle.udp.specs.Calls.{DoesOverUdp};
 ghost use Rattle.udp.specs.Inbox.{StillVouches, came_as, is_vouched_for};
@@ -20,8 +21,7 @@ use crate::patience::{Hurry, Patience};
 use crate::requests::Requests;
 use crate::sockets::{Seat, Way, address_of, take_seat};
 use crate::tallies::Tallies;
-use crate::told::Told;
-use datagram_ports::{Port, PortFault};
+use datagram_ports::{Port, PortFault, Told, Warrant};
 use seals::Seal;
 use std::alloc::Global;
 use std::net::{Net, SocketAddr};
@@ -60,6 +60,8 @@ pub struct UdpPort<'c, C: Clock> {
     leaving: Line<Way>,
     /// What left the queue and was handed to the system.
     handed: Told,
+    /// What may be sent.
+    granted: Told,
     /// Picks the next datagram to leave.
     pick: usize,
     patience: Patience,
@@ -254,6 +256,7 @@ fn port_of<'c, C: Clock>(
         outbox,
         leaving: Line::new(alloc, MOST_LEAVING),
         handed: Told::new(),
+        granted: Told::new(),
         pick: 0,
         patience,
         hurry: Hurry::Patient,
@@ -284,6 +287,8 @@ impl<'c, C: Clock> Port for UdpPort<'c, C> {
 
     ghost vouches = { λ p text. is_vouched_for p.inbox.key p.inbox.came text ≡ true };
 
+    ghost may_send = { λ p text. IsGranted p.granted.all text };
+
     fn receive(&mut self) -> Result<Option<(u8, Vec<u8>)>, PortFault>
         ensures cause { self.new.failures ≡ counted result self.old.failures }
 
@@ -311,7 +316,16 @@ impl<'c, C: Clock> Port for UdpPort<'c, C> {
         }
     }
 
+    fn grant<W: Warrant>(&mut self, warrant: &W, bytes: &[u8])
+        requires { W.covers warrant.now bytes.now }
+        ensures granted { self.new.granted.all ≡ self.old.granted.all ++ bytes.now ∷ [] }
+        ensures same { self.new ≡ record self.old { granted = self.new.granted } }
+    {
+        self.granted.note(bytes);
+    }
+
     fn send(&mut self, from: u8, to: u8, bytes: &[u8]) -> Result<(), PortFault>
+        requires { IsGranted self.old.granted.all bytes.now }
         ensures cause { self.new.failures ≡ counted result self.old.failures }
         ensures vouches_on { StillVouches self.old.inbox self.new.inbox }
         ensures seal_stays { (self.new.inbox.key ≡ self.old.inbox.key)
