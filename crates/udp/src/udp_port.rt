@@ -1,7 +1,7 @@
 //! Ports over UDP.
-ghost use Rattle.std.specs.Prelude.{◌≡◌, ◌<◌, ◌++◌, ◌∷◌, [], IfErr, IfOk, IfSome, None, OnErr, OnOk, length, true};
+ghost use Rattle.std.specs.Prelude.{◌≡◌, ◌<◌, [], IfErr, IfOk, IfSome, None, OnErr, OnOk, length, true};
 ghost use Rattle.datagram_ports.specs.Calls.{Received, Sent, told};
-ghost use Rattle.datagram_ports.specs.Granted.{IsGranted};
+ghost use Rattle.datagram_ports.specs.Granted.{DoesAsBefore, IsGranted};
 ghost use Rattle.datagram_ports.specs.Kept.{counted, one_more};
 ghost use Rattle.udp.specs.Calls.{DoesOverUdp};
 ghost use Rattle.udp.specs.Inbox.{StillVouches, came_as, is_vouched_for};
@@ -318,7 +318,9 @@ impl<'c, C: Clock> Port for UdpPort<'c, C> {
 
     fn grant<W: Warrant>(&mut self, warrant: &W, bytes: &[u8])
         requires { W.covers warrant.now bytes.now }
-        ensures granted { self.new.granted.all ≡ self.old.granted.all ++ bytes.now ∷ [] }
+        ensures granted { IsGranted self.new.granted.all bytes.now }
+        ensures does { DoesAsBefore DoesOverUdp self.old self.new }
+        ensures vouches_on { StillVouches self.old.inbox self.new.inbox }
         ensures same { self.new ≡ record self.old { granted = self.new.granted } }
     {
         self.granted.note(bytes);
