@@ -111,8 +111,9 @@ fn build_on<F: LogFolder, E: Write>(
         (F.gave folder.now me) (run_at tree.now weights.now place) me) }
 {
     let telling = Telling::new(rt.alloc(), me, None, place.sealing.is_watched());
-    let units = Units::new(rt.alloc(), tree)?.len();
-    let begun = begin(rt, tree, weights, folder, me, place.with_notices(units))?;
+    let mut place = place;
+    place.units = Some(Units::new(rt.alloc(), tree)?.len());
+    let begun = begin(rt, tree, weights, folder, me, place)?;
     let Begun { start, port } = begun;
     let Start { disk, unwritten } = start;
     let mut disk = disk;

@@ -1,13 +1,17 @@
 -- The turns of `dpbn build` are turns of programs.
 use Rattle.std.proofs.Common.{◌≡◌, ◌∙◌, ℕ, zero, suc, List, [], ◌∷◌, Option, slice_set, refl, sym, ap, subst}
 use Rattle.dpbn_build.specs.Build.{HasBuilt}
-use Rattle.dpbn_build.specs.Turns.{Turn, told_to}
+use Rattle.dpbn_build.specs.Turns.{NoticesLead, Turn, told_to}
 use Rattle.dpbn_node.specs.Runs.{Running}
 use Rattle.laws.proofs.ProgramWorlds.{IsThere, flushes, others_go, port_changes, takes, with_port}
-use Rattle.laws.specs.BuildPrograms.{BuildTurnsAreOfPrograms, BuildTurnsHappened, BuildTurnsLead, HasBuiltAmong, hurried_port}
+use Rattle.laws.specs.BuildPrograms.{BuildTurnsAreOfPrograms, BuildTurnsHappened, BuildTurnsLead, ExchangesAreNotices, HasBuiltAmong, hurried_port}
 use Rattle.laws.specs.Programs.{Programs, Runs}
 use Rattle.listing.specs.Tree.{Tree}
 use Rattle.lone_node.specs.Handed.{SoFar}
+use Rattle.std.specs.declared.rt.LibcRuntime.{LibcRuntime}
+use Rattle.udp.proofs.Notified.{HasNotified-more, HasNotified-same}
+use Rattle.udp.specs.Notifying.{HasNotified}
+use Rattle.udp.specs.declared.udp_port.UdpPort.{UdpPort}
 
 -- what is put at an index last is there
 set_twice : {X : Type 0} (xs : List X) (k : ℕ) (x y : X)
@@ -49,3 +53,13 @@ among_programs rest old new run = record {
   of_programs = λ tree weights k first early late did here happened.
       build_turns_are_of_programs tree weights k rest old new first early late run did here happened;
 }
+
+-- one notice after the other
+exchanged : (old : UdpPort LibcRuntime) (states : List (UdpPort LibcRuntime)) (new : UdpPort LibcRuntime)
+    → NoticesLead HasNotified old states new → HasNotified old new
+exchanged old [] new same = subst (λ p. HasNotified old p) (sym same) (HasNotified-same old)
+exchanged old (next ∷ more) new (first, later) =
+    HasNotified-more old next new first (exchanged next more new later)
+
+pub exchanges_are_notices : ExchangesAreNotices
+exchanges_are_notices old new it = exchanged old it.states new it.led

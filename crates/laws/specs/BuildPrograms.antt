@@ -2,7 +2,7 @@
 use Rattle.std.specs.Prelude.{◌≡◌, ℕ, List, [], ◌∷◌, Option, None, Some, slice_get}
 use Rattle.std.specs.declared.rt.LibcRuntime.{LibcRuntime}
 use Rattle.dpbn_build.specs.Build.{HasBuilt}
-use Rattle.dpbn_build.specs.Turns.{Turn, TurnsLead, told_to}
+use Rattle.dpbn_build.specs.Turns.{HasExchanged, Turn, TurnsLead, told_to}
 use Rattle.dpbn_node.specs.Runs.{Running, port_vouches}
 use Rattle.laws.specs.Programs.{HaveRun, IsTurnThere, OthersDid, Programs, Runs}
 use Rattle.listing.specs.Tree.{Tree}
@@ -47,6 +47,12 @@ BuildTurnsAreOfPrograms =
     → BuildTurnsHappened tree weights k old run.turned.turns run.last run.turned.led early late
     → (q : Programs) × HaveRun tree weights first q × (slice_get q.places k ≡ Some (Runs new))
     × (q.offered ≡ late.offered)
+
+-- Whatever number of notices a port exchanges before a turn: nothing happened to it but that notices
+-- were sent and taken.
+abbrev pub ExchangesAreNotices : Type 0
+ExchangesAreNotices =
+    (old new : UdpPort LibcRuntime) → HasExchanged HasNotified old new → HasNotified old new
 
 -- `dpbn build` took turns from one state of its node to the other. If they happened in a run of
 -- programs, together with what others did, they are among the things that programs do there.

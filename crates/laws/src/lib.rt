@@ -20,8 +20,8 @@ pub use crate::on_hosts::{
 };
 pub use crate::one_world::{lone_nodes_hold_alike, lone_nodes_make_a_world};
 pub use crate::programs::{
-    build_among_programs, build_turns_are_of_programs, node_turns_are_of_programs,
-    programs_make_a_world,
+    build_among_programs, build_turns_are_of_programs, exchanges_are_notices,
+    node_turns_are_of_programs, programs_make_a_world,
 };
 pub use crate::recorded::Recorded;
 pub use crate::reopening::{open_turn_open, turn_then_open};

@@ -1,6 +1,6 @@
 //! Laws: programs on hosts of their own are one world.
 ghost use Rattle.std.specs.Prelude.{◌≡◌, true};
-ghost use Rattle.laws.specs.BuildPrograms.{BuildTurnsAreOfPrograms, HasBuiltAmong};
+ghost use Rattle.laws.specs.BuildPrograms.{BuildTurnsAreOfPrograms, ExchangesAreNotices, HasBuiltAmong};
 ghost use Rattle.laws.specs.ProgramLaws.{NodeTurnsAreOfPrograms, ProgramsMakeAWorld};
 
 use dpbn_build::{Office, run};
@@ -30,6 +30,13 @@ pub fn node_turns_are_of_programs()
 /// So are the turns that `dpbn build` promises.
 pub fn build_turns_are_of_programs()
     ensures { BuildTurnsAreOfPrograms }
+{}
+
+/// Before a turn `dpbn build` exchanges notices of failed builds with other members. However many
+/// these are, they change nothing of its port but the notices that wait there, to be read or to
+/// leave.
+pub fn exchanges_are_notices()
+    ensures { ExchangesAreNotices }
 {}
 
 /// Takes the turns of `dpbn build`, and returns whether the node is at its end. Then these turns,

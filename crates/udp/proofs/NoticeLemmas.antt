@@ -15,9 +15,9 @@ use Rattle.udp.specs.declared.notice.Listing.{Listing}
 use Rattle.udp.specs.declared.notice.Notice.{Notice}
 use Rattle.udp.specs.declared.sockets.Seat.{Seat}
 
--- nothing changed
-pub notices_still : (s : NoticesState) → NoticesGoOn s s
-notices_still s = record {
+-- if nothing changed, all notices are kept
+pub kept : (s : NoticesState) → NoticesGoOn s s
+kept s = record {
   key = refl;
   listing = refl;
   bytes = [];
@@ -48,8 +48,8 @@ notices_went_on seats members is_open from bytes old new Waits (notice, read, ma
   notices = notice ∷ [];
   waiting = ap (λ (s : NoticesState). s.waiting) same;
 }
-notices_went_on seats members is_open from bytes old new Lost became = subst (λ (s : NoticesState). NoticesGoOn old s) (sym became.0) (notices_still old)
-notices_went_on seats members is_open from bytes old new Unsealed became = subst (λ (s : NoticesState). NoticesGoOn old s) (sym became.0) (notices_still old)
+notices_went_on seats members is_open from bytes old new Lost became = subst (λ (s : NoticesState). NoticesGoOn old s) (sym became.0) (kept old)
+notices_went_on seats members is_open from bytes old new Unsealed became = subst (λ (s : NoticesState). NoticesGoOn old s) (sym became.0) (kept old)
 notices_went_on seats members is_open from bytes old new Repeated became = absurd became
 
 -- ---- received notices

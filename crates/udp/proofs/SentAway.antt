@@ -36,7 +36,7 @@ none_behind s seats node other none zero h =
 none_behind s seats node other none (suc place) h = none place (h.0, h.1, h.2)
 
 -- a node has a seat here or has none
-pub seat_or_none : (seats : List Seat) (node : ℕ) → ((place : ℕ) × IsSeatOf seats node place) ⊎ HasNoSeat seats node
+seat_or_none : (seats : List Seat) (node : ℕ) → ((place : ℕ) × IsSeatOf seats node place) ⊎ HasNoSeat seats node
 seat_or_none [] node = inr (λ place h. absurd (let wrong : None ≡ Some h.0 = h.1 in cc))
 seat_or_none (s ∷ seats) node = ⊎_elim
     (λ same. inl (zero, (s, refl, same)))
@@ -49,7 +49,7 @@ seat_or_none (s ∷ seats) node = ⊎_elim
 -- ---- texts handed over or queued
 
 -- what was handed over is no longer queued
-pub left_out : (waiting new : List (Waiting Way)) (handed now : List Text) → IsLeft waiting handed new now
+left_out : (waiting new : List (Waiting Way)) (handed now : List Text) → IsLeft waiting handed new now
     → IsPermutation (handed ++ texts_of waiting) (now ++ texts_of new)
 left_out waiting new handed now left =
     let moved : IsPermutation (handed ++ texts_of waiting) (handed ++ texts_of (left.0 ++ new)) =
@@ -66,7 +66,7 @@ texts_in_line [] = refl
 texts_in_line (w ∷ ws) = ap (λ (t : List Text). w.bytes.items ∷ t) (texts_in_line ws)
 
 -- a text that leaves by a way is appended to the queue
-pub leaves_text : (seats : List Seat) (addresses : List SocketAddr) (from to : ℕ) (text : Text) (old new : List (Waiting Way))
+leaves_text : (seats : List Seat) (addresses : List SocketAddr) (from to : ℕ) (text : Text) (old new : List (Waiting Way))
     → LeavesBy seats addresses from to text old new → texts_of new ≡ texts_of old ++ text ∷ []
 leaves_text seats addresses from to text old new h =
     sym (texts_in_line new)
@@ -82,7 +82,7 @@ out_same old new handed waiting =
     ∙ ap (λ (w : List (Waiting Way)). old.handed.all ++ texts_of w) waiting
 
 -- otherwise there is one more text
-pub out_more : {C : Type 0} (old new : UdpPort C) (text : Text) → new.handed.all ≡ old.handed.all
+out_more : {C : Type 0} (old new : UdpPort C) (text : Text) → new.handed.all ≡ old.handed.all
     → texts_of new.leaving.waiting.items ≡ texts_of old.leaving.waiting.items ++ text ∷ []
     → out_of new ≡ out_of old ++ text ∷ []
 out_more old new text handed texts =
@@ -123,7 +123,7 @@ one_more_text old between new parcel u calls same none more behind =
     }
 
 -- if these texts are unchanged, they are a permutation of themselves
-pub moved_none : {C : Type 0} (old new : UdpPort C) → out_of new ≡ out_of old → IsPermutation (out_of old) (out_of new)
+moved_none : {C : Type 0} (old new : UdpPort C) → out_of new ≡ out_of old → IsPermutation (out_of old) (out_of new)
 moved_none old new same =
     subst (λ (l : List Text). IsPermutation (out_of old) l) (sym same) (IsPermutation-refl (out_of old))
 

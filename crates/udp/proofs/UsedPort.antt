@@ -1,5 +1,5 @@
 -- Only what a port was used to send leaves it, and notices are read as they were sent.
-use Rattle.std.proofs.Common.{◌≡◌, ⊎_elim, ◌∙◌, ◌++◌, ℕ, List, [], ◌∷◌, Option, None, Some, Ok, Err, inl, inr, map, length, take, refl, sym, ap, subst, append_assoc}
+use Rattle.std.proofs.Common.{◌≡◌, ◌∙◌, ◌++◌, ℕ, List, [], ◌∷◌, Option, None, Some, map, length, take, refl, sym, ap, subst, append_assoc}
 use Rattle.std.specs.Prelude.{slice_index, drop}
 use Rattle.std.specs.List.{AllByRecursion}
 use Rattle.std.specs.List.Sorted.{IsPermutation}
@@ -8,18 +8,17 @@ use Rattle.std.proofs.lemmas.List.{append-nil, map-append}
 use Rattle.std.proofs.lemmas.List.Sorted.{IsPermutation-append_left, IsPermutation-refl, IsPermutation-trans}
 use Rattle.byteorder.specs.Endian.{big_bytes, big_number}
 use Rattle.faults.specs.Bytes.{Text}
-use Rattle.datagram_ports.specs.Calls.{Received, Sent}
 use Rattle.seals.specs.Sealed.{sealed}
 use Rattle.udp.proofs.Notified.{IsSamePort-more, IsSamePort-same}
 use Rattle.udp.proofs.NoticeTexts.{member_at, same_notice, unit_at}
 use Rattle.udp.proofs.NotifyLemmas.{all_queued}
-use Rattle.udp.proofs.SentAway.{leaves_text, left_out, moved_none, out_more, out_same, seat_or_none, texts_in_line}
+use Rattle.udp.proofs.SentAway.{leave_what_is_sent, out_same, texts_in_line}
 use Rattle.udp.specs.Calls.{IsSamePort, Setup, out_of}
 use Rattle.udp.specs.Inbox.{came_as}
 use Rattle.udp.specs.Leaving.{texts_of}
 use Rattle.udp.specs.Notices.{notice_text}
 use Rattle.udp.specs.Notifying.{GoesToEach, Outgoing, outgoing}
-use Rattle.udp.specs.Uses.{Called, IsMade, IsTextOf, LeavesByUse, Notified, Took, Use, UsesSend, WentThroughUses}
+use Rattle.udp.specs.Uses.{Called, IsMade, IsTextOf, LeavesByUse, Notified, SendsAway, Took, Use, UsesSend, WentThroughUses}
 use Rattle.udp.specs.Ways.{in_line}
 use Rattle.udp.specs.declared.line.Waiting.{Waiting}
 use Rattle.udp.specs.declared.notice.Listing.{Listing}
@@ -38,35 +37,25 @@ used_before old new uses texts same sent =
     (subst (λ (key : Option Text). UsesSend old.seats.items key new.notices.listing uses texts) same.sent
     (subst (λ (seats : List Seat). UsesSend seats new.outbox.key new.notices.listing uses texts) (ap (λ (s : Setup). s.seats) same.setup) sent))
 
--- a use that sends nothing away, and the uses after it
-nothing_sent : {C : Type 0} (old between new : UdpPort C) (one : Use) (uses : List Use) → IsSamePort old between
-    → IsPermutation (out_of old) (out_of between)
-    → ((texts : List Text) → UsesSend old.seats.items old.outbox.key old.notices.listing uses texts
-    → UsesSend old.seats.items old.outbox.key old.notices.listing (one ∷ uses) texts)
+-- a use that sends these texts away, and the uses after it
+one_used : {C : Type 0} (old between new : UdpPort C) (one : Use) (uses : List Use) (sent : List Text) → IsSamePort old between
+    → IsPermutation (out_of old ++ sent) (out_of between)
+    → SendsAway old.seats.items old.outbox.key old.notices.listing one sent
     → LeavesByUse between uses new → LeavesByUse old (one ∷ uses) new
-nothing_sent old between new one uses same moved sends behind = record {
-  same = IsSamePort-more old between new same behind.same;
-  texts = behind.texts;
-  sent = sends behind.texts (used_before old between uses behind.texts same behind.sent);
-  out = IsPermutation-trans (out_of old ++ behind.texts) (out_of between ++ behind.texts) (out_of new)
-      (IsPermutation-append_left behind.texts (out_of old) (out_of between) moved) behind.out;
-}
-
--- a use that sends texts away, and the uses after it
-texts_sent : {C : Type 0} (old between new : UdpPort C) (one : Use) (uses : List Use) (sent : List Text) → IsSamePort old between
-    → out_of between ≡ out_of old ++ sent
-    → ((more : List Text) → UsesSend old.seats.items old.outbox.key old.notices.listing uses more
-    → UsesSend old.seats.items old.outbox.key old.notices.listing (one ∷ uses) (sent ++ more))
-    → LeavesByUse between uses new → LeavesByUse old (one ∷ uses) new
-texts_sent old between new one uses sent same more sends behind =
-    let joined : out_of between ++ behind.texts ≡ out_of old ++ (sent ++ behind.texts) =
-    ap (λ (t : List Text). t ++ behind.texts) more ∙ append_assoc (out_of old) sent behind.texts in
+one_used old between new one uses sent same moved sends behind =
+    let joined : (out_of old ++ sent) ++ behind.texts ≡ out_of old ++ (sent ++ behind.texts) = append_assoc (out_of old) sent behind.texts in
     record {
       same = IsSamePort-more old between new same behind.same;
       texts = sent ++ behind.texts;
-      sent = sends behind.texts (used_before old between uses behind.texts same behind.sent);
-      out = subst (λ (l : List Text). IsPermutation l (out_of new)) joined behind.out;
+      sent = (sent, behind.texts, sends, refl, used_before old between uses behind.texts same behind.sent);
+      out = IsPermutation-trans (out_of old ++ (sent ++ behind.texts)) (out_of between ++ behind.texts) (out_of new)
+          (subst (λ (l : List Text). IsPermutation l (out_of between ++ behind.texts)) joined
+          (IsPermutation-append_left behind.texts (out_of old ++ sent) (out_of between) moved)) behind.out;
     }
+
+-- equal lists are permutations of each other
+same_out : {C : Type 0} (old new : UdpPort C) (sent : List Text) → out_of new ≡ out_of old ++ sent → IsPermutation (out_of old ++ sent) (out_of new)
+same_out old new sent same = subst (λ (l : List Text). IsPermutation (out_of old ++ sent) l) (sym same) (IsPermutation-refl (out_of old ++ sent))
 
 -- ---- notices
 
@@ -124,34 +113,17 @@ leaves_by_use old new [] same =
       sent = refl;
       out = subst (λ (l : List Text). IsPermutation l (out_of old)) (sym (append-nil (out_of old))) (IsPermutation-refl (out_of old));
     })
-leaves_by_use old new (Called (Received answer) ∷ uses) (between, does, rest) =
-    nothing_sent old between new (Called (Received answer)) uses does.same
-    (left_out old.leaving.waiting.items between.leaving.waiting.items old.handed.all between.handed.all does.left)
-    (λ texts sent. sent) (leaves_by_use between new uses rest)
-leaves_by_use old new (Called (Sent parcel (Err f)) ∷ uses) (between, does, rest) =
-    nothing_sent old between new (Called (Sent parcel (Err f))) uses does.same
-    (moved_none old between (out_same old between does.handed does.taken))
-    (λ texts sent. sent) (leaves_by_use between new uses rest)
-leaves_by_use old new (Called (Sent parcel (Ok u)) ∷ uses) (between, does, rest) =
-    let behind = leaves_by_use between new uses rest in
-    ⊎_elim
-    (λ there. nothing_sent old between new (Called (Sent parcel (Ok u))) uses does.same
-    (moved_none old between (out_same old between does.handed (does.taken.2 there.0 there.1)))
-    (λ texts sent. inl (there, sent)) behind)
-    (λ none. texts_sent old between new (Called (Sent parcel (Ok u))) uses (came_as old.outbox.key parcel.text ∷ []) does.same
-    (out_more old between (came_as old.outbox.key parcel.text) does.handed
-    (leaves_text old.seats.items old.addresses.items parcel.from parcel.to (came_as old.outbox.key parcel.text)
-    old.leaving.waiting.items between.leaving.waiting.items (does.taken.1 none)))
-    (λ more sent. inr (none, (more, refl, sent))) behind)
-    (seat_or_none old.seats.items parcel.to)
+leaves_by_use old new (Called call ∷ uses) (between, does, rest) =
+    let one = leave_what_is_sent old between (call ∷ []) (between, does, refl) in
+    one_used old between new (Called call) uses one.texts one.same one.out one.sent (leaves_by_use between new uses rest)
 leaves_by_use old new (Notified notice ∷ uses) (between, does, rest) =
     let copies = copies_of old between notice old.notices.listing refl does.only.handed does.sent in
-    texts_sent old between new (Notified notice) uses copies.copies does.only.same copies.out
-    (λ more sent. (copies.copies, copies.each, (more, refl, sent))) (leaves_by_use between new uses rest)
+    one_used old between new (Notified notice) uses copies.copies does.only.same
+    (same_out old between copies.copies copies.out) copies.each (leaves_by_use between new uses rest)
 leaves_by_use old new (Took answer ∷ uses) (between, does, rest) =
-    nothing_sent old between new (Took answer) uses does.only.same
-    (moved_none old between (out_same old between does.only.handed does.leaving))
-    (λ texts sent. sent) (leaves_by_use between new uses rest)
+    one_used old between new (Took answer) uses [] does.only.same
+    (same_out old between [] (out_same old between does.only.handed does.leaving ∙ sym (append-nil (out_of old))))
+    refl (leaves_by_use between new uses rest)
 
 -- ---- notices are read as they were sent
 

@@ -33,8 +33,8 @@ setup_of p = record {
   front = p.front;
 }
 
--- Nothing has happened to the port yet: nothing came, waits, was handed to the system or offered, and
--- a receive is patient.
+-- Nothing has happened to the port yet: nothing came, waits, was handed to the system or offered,
+-- and a receive is patient.
 pub record IsEmpty {C : Type 0} (port : UdpPort C) : Type 0 where
   pub came : port.inbox.came ≡ []
   pub waiting : port.inbox.waiting ≡ []

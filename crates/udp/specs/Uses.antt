@@ -1,13 +1,12 @@
 -- What a port is used for, notices included.
-use Rattle.std.specs.Prelude.{◌≡◌, ◌⊎◌, ◌++◌, ◌<◌, ◌^◌, ℕ, IsPermutation, List, [], ◌∷◌, Option, None, Some, Ok, Err, length, option_to_list}
+use Rattle.std.specs.Prelude.{◌≡◌, ◌++◌, ◌<◌, ◌^◌, IsPermutation, List, [], ◌∷◌, Option, None, Some, length, option_to_list}
 use Rattle.std.specs.List.{AllByRecursion}
 use Rattle.faults.specs.Bytes.{Text}
-use Rattle.datagram_ports.specs.Calls.{Call, Received, Sent}
-use Rattle.udp.specs.Calls.{DoesOverUdp, IsSamePort, out_of}
+use Rattle.datagram_ports.specs.Calls.{Call}
+use Rattle.udp.specs.Calls.{AreSentAway, DoesOverUdp, IsSamePort, out_of}
 use Rattle.udp.specs.Inbox.{came_as}
 use Rattle.udp.specs.Notices.{notice_text}
 use Rattle.udp.specs.Notifying.{HasNotified, Notifies}
-use Rattle.udp.specs.Ways.{HasNoSeat, IsSeatOf}
 use Rattle.udp.specs.declared.notice.Listing.{Listing}
 use Rattle.udp.specs.declared.notice.Notice.{Notice}
 use Rattle.udp.specs.declared.sockets.Seat.{Seat}
@@ -41,32 +40,28 @@ DoesByUse old (Took answer) new = TakesNotice old answer new
 -- These uses lead, in order, from one state of the port to the other.
 abbrev pub WentThroughUses : {C : Type 0} → UdpPort C → List Use → UdpPort C → Type 0
 WentThroughUses old [] new = new ≡ old
-WentThroughUses old (use_of_it ∷ uses) new = (between : UdpPort _)
-    × DoesByUse old use_of_it between × WentThroughUses between uses new
+WentThroughUses old (one ∷ uses) new = (between : UdpPort _)
+    × DoesByUse old one between × WentThroughUses between uses new
 
 -- the text is the notice's, as it leaves under the key
 abbrev pub IsTextOf : Option Text → Option Listing → Notice → Text → Type 0
 IsTextOf key None notice text = ⊥
 IsTextOf key (Some listing) notice text = text ≡ came_as key (notice_text listing.digest notice)
 
--- The uses send these texts away, in order: for each accepted send to a node of another process its
--- text, as it leaves under the key; for each notice that is sent its text, any number of times; and
--- nothing else.
+-- A use sends these texts away: a call those that it sends by itself; a notice that is sent its
+-- text, any number of times; and a notice that is taken none.
+abbrev pub SendsAway : List Seat → Option Text → Option Listing → Use → List Text → Type 0
+SendsAway seats key listing (Called call) texts = AreSentAway seats key (call ∷ []) texts
+SendsAway seats key listing (Notified notice) texts =
+    AllByRecursion (IsTextOf key listing notice) texts
+SendsAway seats key listing (Took answer) texts = texts ≡ []
+
+-- The uses send these texts away, in order, and nothing else.
 abbrev pub UsesSend : List Seat → Option Text → Option Listing → List Use → List Text → Type 0
 UsesSend seats key listing [] texts = texts ≡ []
-UsesSend seats key listing (Called (Received answer) ∷ uses) texts =
-    UsesSend seats key listing uses texts
-UsesSend seats key listing (Called (Sent parcel (Err f)) ∷ uses) texts =
-    UsesSend seats key listing uses texts
-UsesSend seats key listing (Called (Sent parcel (Ok u)) ∷ uses) texts =
-    (((place : ℕ) × IsSeatOf seats parcel.to place) × UsesSend seats key listing uses texts)
-    ⊎ (HasNoSeat seats parcel.to
-    × ((more : List Text) × (texts ≡ came_as key parcel.text ∷ more)
-    × UsesSend seats key listing uses more))
-UsesSend seats key listing (Notified notice ∷ uses) texts = (copies : List Text)
-    × AllByRecursion (IsTextOf key listing notice) copies
-    × ((more : List Text) × (texts ≡ copies ++ more) × UsesSend seats key listing uses more)
-UsesSend seats key listing (Took answer ∷ uses) texts = UsesSend seats key listing uses texts
+UsesSend seats key listing (one ∷ uses) texts = (first : List Text) × (more : List Text)
+    × SendsAway seats key listing one first × (texts ≡ first ++ more)
+    × UsesSend seats key listing uses more
 
 -- Nothing leaves the port except what the uses send. The port is the same, and the texts handed
 -- over or queued are those from before and those that the uses send away, each once.

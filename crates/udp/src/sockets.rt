@@ -196,7 +196,7 @@ fn take_all(
 
 /// Takes bytes that came from this address for the node. It tests their length first, then that
 /// they are from a member, and then the seal.
-#[tactic(auto, using(crate::proofs::InboxLemmas::goes_on_still, crate::proofs::NoticeLemmas::notices_still))]
+#[tactic(auto, using(crate::proofs::InboxLemmas::goes_on_still, crate::proofs::NoticeLemmas::kept))]
 fn take_one(
     node: u8,
     bytes: &[u8],

@@ -45,7 +45,7 @@ const MOST_LEAVING: usize = 2_048;
 /// datagram that is sent to a node here, and wait there for a receive. Datagrams for nodes of other
 /// processes leave a few at a time and out of order, so that pieces which are sent again aren't
 /// lost at the same place again. A datagram that the system doesn't take at the moment stays
-/// queued.
+/// queued. Received notices have a queue of their own.
 #[derive(Drop)]
 pub struct UdpPort<'c, C: Clock> {
     clock: &'c C,

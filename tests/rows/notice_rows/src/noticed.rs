@@ -58,6 +58,7 @@ fn socket<R: Net>(rt: &R) -> Result<(UdpSocket, SocketAddr), Fail> {
 }
 
 /// Member 0's port, its address, and the sockets of members 1 and 2.
+#[derive(Drop)]
 struct Three<'c, C: Clock> {
     port: UdpPort<'c, C>,
     at: SocketAddr,
@@ -65,7 +66,12 @@ struct Three<'c, C: Clock> {
     second: UdpSocket,
 }
 
-fn three<'c, R: Net + Clock>(rt: &'c R, alloc: Global, guard: Guard) -> Result<Three<'c, R>, Fail> {
+/// All three at free ports of 127.0.0.1.
+fn started<'c, R: Net + Clock>(
+    rt: &'c R,
+    alloc: Global,
+    guard: Guard,
+) -> Result<Three<'c, R>, Fail> {
     let (own, at) = socket(rt)?;
     let (first, first_at) = socket(rt)?;
     let (second, second_at) = socket(rt)?;
@@ -75,7 +81,12 @@ fn three<'c, R: Net + Clock>(rt: &'c R, alloc: Global, guard: Guard) -> Result<T
     addresses.push(first_at)?;
     addresses.push(second_at)?;
     let port = UdpPort::alone_behind(rt, rt, alloc, addresses, 0, 20, guard)?;
-    Ok(Three { port, at, first, second })
+    Ok(Three {
+        port,
+        at,
+        first,
+        second,
+    })
 }
 
 /// Accepts sealed datagrams of the run, and notices about the listing.
@@ -102,7 +113,7 @@ fn came<'b>(socket: &UdpSocket, buffer: &'b mut [u8]) -> &'b [u8] {
 /// Each other member gets the sealed bytes, once.
 #[test]
 fn sends_to_each_other_member(rt: HostRuntime) -> Result<(), Fail> {
-    let mut three = three(&rt, rt.alloc(), sealed())?;
+    let mut three = started(&rt, rt.alloc(), sealed())?;
     three.port.send_notice(Notice { member: 0, unit: 258 });
     three.port.flush();
     let mut buffer = [0; 100];
@@ -118,10 +129,10 @@ fn sends_to_each_other_member(rt: HostRuntime) -> Result<(), Fail> {
 #[test]
 fn sends_none(rt: HostRuntime) -> Result<(), Fail> {
     let mut buffer = [0; 100];
-    let mut silent = three(&rt, rt.alloc(), Guard::unsealed(LONGEST))?;
+    let mut silent = started(&rt, rt.alloc(), Guard::unsealed(LONGEST))?;
     silent.port.send_notice(Notice { member: 0, unit: 1 });
     silent.port.flush();
-    let mut other = three(&rt, rt.alloc(), unsealed())?;
+    let mut other = started(&rt, rt.alloc(), unsealed())?;
     other.port.send_notice(Notice { member: 1, unit: 1 });
     other.port.flush();
     assert!(rt; came(&silent.first, &mut buffer).is_empty());
@@ -132,11 +143,11 @@ fn sends_none(rt: HostRuntime) -> Result<(), Fail> {
 /// A sealed notice is read once, and never received as a datagram.
 #[test]
 fn reads_what_is_sealed(rt: HostRuntime) -> Result<(), Fail> {
-    let mut three = three(&rt, rt.alloc(), sealed())?;
+    let mut three = started(&rt, rt.alloc(), sealed())?;
     three.port.set_hurry(Hurry::Steady);
-    three.first.send_to(&SEALED, three.at)?;
+    three.first.send_to(SEALED.as_slice(), three.at)?;
     three.first.send_to(&SEALED[..41], three.at)?;
-    three.second.send_to(&SEALED, three.at)?;
+    three.second.send_to(SEALED.as_slice(), three.at)?;
     let nothing = three.port.receive()?;
     assert!(rt; nothing.is_none());
     assert!(rt; three.port.take_notice() == Some(Notice { member: 1, unit: 258 }));
@@ -155,7 +166,7 @@ fn reads_what_is_sealed(rt: HostRuntime) -> Result<(), Fail> {
 #[test]
 fn reads_in_order_and_drops_the_rest(rt: HostRuntime) -> Result<(), Fail> {
     let alloc = rt.alloc();
-    let mut three = three(&rt, alloc, unsealed())?;
+    let mut three = started(&rt, alloc, unsealed())?;
     three.port.set_hurry(Hurry::Steady);
     let good = text_of(alloc, 0, 1, [0, 0, 1, 43])?;
     let mut longer = text_of(alloc, 0, 1, [0, 0, 0, 5])?;
@@ -171,8 +182,13 @@ fn reads_in_order_and_drops_the_rest(rt: HostRuntime) -> Result<(), Fail> {
     three.first.send_to(&good[..40], three.at)?;
     three.first.send_to(&good, three.at)?;
     three.first.send_to(b"DPB1", three.at)?;
-    let datagram = three.port.receive()?;
-    assert!(rt; matches!(datagram, Some((0, bytes)) if bytes.as_slice() == b"DPB1"));
+    match three.port.receive()? {
+        Some((node, bytes)) => {
+            assert_eq!(rt; node, 0);
+            assert!(rt; bytes.as_slice() == b"DPB1");
+        }
+        None => assert!(rt; false),
+    }
     assert!(rt; three.port.take_notice() == Some(Notice { member: 1, unit: 258 }));
     assert!(rt; three.port.take_notice() == Some(Notice { member: 1, unit: 299 }));
     assert!(rt; three.port.take_notice().is_none());
@@ -185,7 +201,7 @@ fn reads_in_order_and_drops_the_rest(rt: HostRuntime) -> Result<(), Fail> {
 #[test]
 fn drops_notices_without_a_listing(rt: HostRuntime) -> Result<(), Fail> {
     let alloc = rt.alloc();
-    let mut three = three(&rt, alloc, Guard::unsealed(LONGEST))?;
+    let mut three = started(&rt, alloc, Guard::unsealed(LONGEST))?;
     three.port.set_hurry(Hurry::Steady);
     three.first.send_to(&text_of(alloc, 0, 1, [0, 0, 0, 5])?, three.at)?;
     let nothing = three.port.receive()?;

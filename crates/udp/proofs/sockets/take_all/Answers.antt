@@ -1,14 +1,14 @@
 use Rattle.std.proofs.Common.{refl}
 use Rattle.udp.proofs.Coming.{HasCome-none, HasCome-one}
 use Rattle.udp.proofs.InboxLemmas.{GoesOn-more, GoesOn-same}
-use Rattle.udp.proofs.NoticeLemmas.{NoticesGoOn-more, notices_still}
+use Rattle.udp.proofs.NoticeLemmas.{NoticesGoOn-more, kept}
 use Rattle.udp.proofs.sockets.take_all.Goals as goal
 
 pub loop-init : goal.loop-init
 loop-init c = record {
   come = HasCome-none c.args.seat.now.node c.args.inbox.now;
   goes_on = GoesOn-same c.args.inbox.now c.args.inbox.now refl;
-  notices = notices_still c.args.notices.now;
+  notices = kept c.args.notices.now;
 }
 
 pub loop-preserved : goal.loop-preserved

@@ -1,12 +1,12 @@
 use Rattle.std.proofs.Common.{refl}
 use Rattle.udp.proofs.InboxLemmas.{GoesOn-more, GoesOn-same}
-use Rattle.udp.proofs.NoticeLemmas.{NoticesGoOn-more, notices_still}
+use Rattle.udp.proofs.NoticeLemmas.{NoticesGoOn-more, kept}
 use Rattle.udp.proofs.sockets.take_off.Goals as goal
 
 pub loop-seat-init : goal.loop-seat-init
 loop-seat-init c = record {
   goes_on = GoesOn-same c.args.inbox.now c.args.inbox.now refl;
-  notices = notices_still c.args.notices.now;
+  notices = kept c.args.notices.now;
 }
 
 pub loop-seat-preserved : goal.loop-seat-preserved

@@ -1,13 +1,13 @@
 use Rattle.std.proofs.Common.{◌∙◌, refl}
 use Rattle.udp.proofs.InboxLemmas.{GoesOn-more, GoesOn-same}
 use Rattle.udp.proofs.Leaving.{IsLeft-more, IsLeft-none}
-use Rattle.udp.proofs.NoticeLemmas.{NoticesGoOn-more, notices_still}
+use Rattle.udp.proofs.NoticeLemmas.{NoticesGoOn-more, kept}
 use Rattle.udp.proofs.udp_port.UdpPort.look.Goals as goal
 
 pub loop-look-init : goal.loop-look-init
 loop-look-init g c = record {
   goes_on = GoesOn-same c.args.self.now.inbox c.args.self.now.inbox refl;
-  notices = notices_still c.args.self.now.notices;
+  notices = kept c.args.self.now.notices;
   outbox = refl;
   stays = (refl, refl, refl);
   leaving = IsLeft-none c.args.self.now.leaving.waiting.items c.args.self.now.handed.all;
