@@ -390,8 +390,7 @@ fn is_lately(then: SystemTime, now: SystemTime) -> bool {
     }
 }
 
-/// Whether this error says that there is no such file: if a file is where a subfolder should be,
-/// nothing is in it.
+/// Whether this error says that there is no such file. A subfolder that is a file has none in it.
 fn is_missing(kind: ErrorKind) -> bool {
     matches!(kind, ErrorKind::NotFound | ErrorKind::NotADirectory)
 }

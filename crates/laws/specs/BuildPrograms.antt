@@ -48,8 +48,8 @@ BuildTurnsAreOfPrograms =
     → (q : Programs) × HaveRun tree weights first q × (slice_get q.places k ≡ Some (Runs new))
     × (q.offered ≡ late.offered)
 
--- Whatever number of notices a port exchanges before a turn: nothing happened to it but that notices
--- were sent and taken.
+-- However many notices a port exchanges before a turn, nothing else happens to it than that notices
+-- are sent and taken.
 abbrev pub ExchangesAreNotices : Type 0
 ExchangesAreNotices =
     (old new : UdpPort LibcRuntime) → HasExchanged HasNotified old new → HasNotified old new

@@ -7,9 +7,9 @@ use Rattle.scheduler.specs.Wishing.{IsLeastOf, IsNextAsked}
 use Rattle.scheduler.specs.declared.desk.Desk.{Desk}
 use Rattle.scheduler.specs.declared.sought.Sought.TheVariants.{Mine}
 
--- Whether it has caught up, if this is the first package to ask for. Either there is nobody to ask;
--- or a slot's time passed since the last question, or since the start, and either the unit of that
--- question isn't held or there is nothing to ask for.
+-- Whether it has caught up, if this is the first package to ask for. So it has if there is nobody to
+-- ask. Else a slot's time has to pass after the last question, or after the start; and the unit of
+-- that question isn't held, or there is nothing to ask for.
 abbrev pub has_caught_up : State → Desk → Instant → Option ℕ → Bool
 has_caught_up s d now next =
     (length s.weights == 1)
@@ -18,15 +18,16 @@ has_caught_up s d now next =
 -- It catches up still: it did before, and hasn't caught up now.
 abbrev pub StillCatchesUp : State → Desk → Instant → Bool → Type 0
 StillCatchesUp s d now still =
-    (next : Option ℕ) × IsNextAsked s d 0 next
-    × (still ≡ (d.is_catching_up && not (has_caught_up s d now next)))
+    (d.is_catching_up ≡ false → still ≡ false)
+    × (d.is_catching_up ≡ true
+    → (next : Option ℕ) × IsNextAsked s d 0 next × (still ≡ not (has_caught_up s d now next)))
 
--- Units may still be left that were the member's before its start: some may have been before, and
--- either the desk catches up, or a package is queued whose unit is the member's own and may be
--- claimed some time.
-pub record StillResumes (s : State) (d : Desk) (still : Bool) : Type 0
-  where
-    pub none : d.resumes ≡ false → still ≡ false
-    pub before : d.resumes ≡ true → d.is_catching_up ≡ true → still ≡ true
-    pub after : d.resumes ≡ true → d.is_catching_up ≡ false
-        → (least : Option ℕ) × IsLeastOf d s None Mine least × (still ≡ is_some least)
+-- Units may still be left that were the member's before its start, if any were at all. While the desk
+-- catches up some may be; after that, as long as a package is queued whose unit is the member's own
+-- and may be claimed some time.
+abbrev pub StillResumes : State → Desk → Bool → Type 0
+StillResumes s d still =
+    (d.resumes ≡ false → still ≡ false)
+    × (d.resumes ≡ true → d.is_catching_up ≡ true → still ≡ true)
+    × (d.resumes ≡ true → d.is_catching_up ≡ false
+    → (least : Option ℕ) × IsLeastOf d s None Mine least × (still ≡ is_some least))

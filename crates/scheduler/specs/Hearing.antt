@@ -1,5 +1,5 @@
 -- What a desk keeps of what others said of units.
-use Rattle.std.specs.Prelude.{◌≡◌, ◌≤◌, ◌==◌, ◌&&◌, ℕ, Bool, false, not, Ok, Option, None, Some, if◌then◌else◌, length, nat_eq}
+use Rattle.std.specs.Prelude.{◌≡◌, ◌==◌, ◌&&◌, ℕ, Bool, Err, false, not, Ok, Option, None, Result, Some, if◌then◌else◌, length, nat_eq, nat_lt}
 use Rattle.std.specs.Duration.{as_nanos}
 use Rattle.std.specs.declared.time.Instant.{Instant}
 use Rattle.claims.specs.Claims.{claim_same}
@@ -13,7 +13,9 @@ use Rattle.indexmap.specs.IndexMap.{get}
 use Rattle.turn_rules.specs.Wishes.{is_of_another}
 use Rattle.protocol.specs.State.{State, Value, facts_at}
 use Rattle.wire.specs.Reading.{datagram_of}
-use Rattle.wire.specs.declared.datagram.Datagram.TheVariants.{Whole}
+use Rattle.wire.specs.declared.WireFault.{WireFault}
+use Rattle.wire.specs.declared.datagram.Datagram.{Datagram}
+use Rattle.wire.specs.declared.datagram.Datagram.TheVariants.{Piece, Whole}
 use Rattle.scheduler.specs.Waiting.{has_waited, since_promised}
 use Rattle.scheduler.specs.Tries.{after_notice, after_offer, is_counted}
 use Rattle.scheduler.specs.declared.desk.Desk.{Desk}
@@ -104,11 +106,26 @@ HearsMessage s now m (Some u) old new = HearsOf s now m u old new
 abbrev pub longest : ℕ
 longest = 1024
 
--- So it does of a datagram that is a whole message, and no longer than that.
+-- the message, if it is a datagram with a whole one
+abbrev pub whole_of : Result Datagram WireFault → Option (Message Value)
+whole_of (Ok (Whole m)) = Some m
+whole_of (Ok (Piece p)) = None
+whole_of (Err fault) = None
+
+-- The message that is read: the datagram has a whole one, and is no longer than that.
+abbrev pub message_in : Text → Option (Message Value)
+message_in bytes = if nat_lt longest (length bytes) then None else whole_of (datagram_of bytes)
+
+-- So it does of that message; of any other datagram it keeps nothing.
+abbrev pub HearsWhole : State → Instant → Option (Message Value) → Desk → Desk → Type 0
+HearsWhole s now None old new =
+    (new.named ≡ old.named) × (new.given_back ≡ old.given_back)
+    × (new.failed_elsewhere ≡ old.failed_elsewhere)
+HearsWhole s now (Some m) old new = HearsMessage s now m (number_found s.division m.path) old new
+
+-- So it does of a datagram.
 abbrev pub Hears : State → Instant → Text → Desk → Desk → Type 0
-Hears s now bytes old new =
-    (m : Message Value) → datagram_of bytes ≡ Ok (Whole m) → length bytes ≤ longest
-    → HearsMessage s now m (number_found s.division m.path) old new
+Hears s now bytes old new = HearsWhole s now (message_in bytes) old new
 
 -- ---- notices
 

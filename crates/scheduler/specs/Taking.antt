@@ -84,7 +84,7 @@ AreUnsent old posted new =
 abbrev pub job_out : Desk → Option ℕ → Option Posted
 job_out d unit = posted_at d.out.items (place_of d.out.items unit)
 
--- What is kept of the mark of a build that failed, and of the notice of it.
+-- The desk keeps whether a failed build's mark couldn't be written, and that a notice of it is due.
 abbrev pub IsMarkKept : Desk → Option ℕ → Option WorkFault → Desk → Type 0
 IsMarkKept old unit fault new =
     AreUnwritten old (job_out old unit) fault new × AreUnsent old (job_out old unit) new

@@ -55,7 +55,7 @@ is_counted s from u =
 abbrev pub again : ℕ
 again = 1000000000
 
--- the place, or the first one if there aren't so many
+-- the place, or the first one if it is past the last
 abbrev pub place_in : ℕ → ℕ → ℕ
 place_in place count = if nat_lt place count then place else 0
 

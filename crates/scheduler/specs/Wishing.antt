@@ -95,13 +95,13 @@ is_for None u = false
 is_for (Some o) u = o.unit == u
 
 -- Whether nobody claims the unit any more: its builds failed at as many other members as it may be
--- tried at. (If it failed at this one, that alone bars it.) A claim that is open goes on.
+-- tried at. (A unit that failed at this one is barred for that.) A claim that is open goes on.
 abbrev pub is_given_up : Desk → State → ℕ → Bool
 is_given_up d s u =
     not (is_for s.claim u) && nat_le d.pace.tries (tries_at (get nat_eq d.failed_elsewhere u))
 
--- Whether the unit may not be claimed: it is out, or it failed here, or at as many members as it may
--- be tried at, or no round is left for it, or it is left to other members.
+-- Whether the unit may not be claimed: it is out, or it failed here, or it is given up, or no round is
+-- left for it, or it is left to other members.
 abbrev pub barred_at : Desk → State → Option Instant → Sought → Barred
 barred_at d s at sought u =
     has_unit d.out.items u

@@ -186,9 +186,7 @@ impl<'f> Desk<'f> {
         forget_held(&mut self.out, member);
         forget_held_units(&mut self.pressing, member);
         let is_catching_up = self.still_catches_up(member, now);
-        if self.is_catching_up && !is_catching_up && self.is_late(member) {
-            self.early = queued_units(*self.failed.allocator(), member)?;
-        }
+        self.keep_early(member, is_catching_up)?;
         self.is_catching_up = is_catching_up;
         self.resumes = self.still_resumes(member);
         if is_over(self.look_wait(), self.looked_at, now) {
@@ -202,20 +200,36 @@ impl<'f> Desk<'f> {
     fn still_catches_up(&self, member: &Member<'_>, now: Instant) -> bool
         ensures { StillCatchesUp member.now self.now now result }
     {
+        if !self.is_catching_up {
+            return false;
+        }
         let next = self.next_asked(member, 0);
-        self.is_catching_up && !self.has_caught_up(member, now, next)
+        !self.has_caught_up(member, now, next)
     }
 
-    /// Whether it has caught up, if this is the first to ask for. Either there is nobody to ask; or
-    /// a slot's time passed since the last question, or since the start, and either the unit of
-    /// that question isn't held or there is nothing to ask for: a node that has all but what it
-    /// built itself before its start has nobody to ask.
+    /// Whether it has caught up, if this is the first to ask for. So it has if there is nobody to
+    /// ask. Else a slot's time has to pass after the last question, or after the start; and the
+    /// unit of that question isn't held, or there is nothing to ask for. A node that has all but
+    /// what it built itself before its start has nothing to ask for.
     fn has_caught_up(&self, member: &Member<'_>, now: Instant, next: Option<u32>) -> bool
         ensures { result ≡ has_caught_up member.now self.now now next }
     {
         member.weights().len() == 1
             || is_over(self.pace.slot, self.asked_at, now)
                 && (!self.is_hit(member) || next.is_none())
+    }
+
+    /// Keeps which units are queued, if this node has caught up just now and started late.
+    fn keep_early(&mut self, member: &Member<'_>, is_catching_up: bool) -> Result<(), Memory>
+        ensures early { self.old.is_catching_up ≡ is_catching_up
+            → self.new.early ≡ self.old.early }
+        ensures left { OnErr result (self.new.early ≡ self.old.early) }
+        ensures rest { self.new ≡ record self.old { early = self.new.early } }
+    {
+        if self.is_catching_up && !is_catching_up && self.is_late(member) {
+            self.early = queued_units(*self.failed.allocator(), member)?;
+        }
+        Ok(())
     }
 
     /// Whether others may have claimed units before this node started: it ran before, or something

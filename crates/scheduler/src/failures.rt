@@ -22,7 +22,11 @@ pub(crate) fn count_at(all: &IndexMap<u32, Failures>, unit: u32) -> usize
     ensures { result ≡ tries_at (get nat_eq all.now unit) }
 {
     match all.get(&unit) {
-        Some(failures) => failures.members.iter().filter(|has_failed| **has_failed).count(),
+        Some(failures) => failures
+            .members
+            .iter()
+            .filter(|has_failed| **has_failed)
+            .count(),
         None => 0,
     }
 }

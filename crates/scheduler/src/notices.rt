@@ -1,7 +1,5 @@
 //! Which notices of failed builds are to be sent, and when.
-ghost use Rattle.std.specs.Prelude.{◌≡◌, ◌≢◌, ◌<◌, [], None, filter, length, nat_eq, option_map, slice_get};
-ghost use Rattle.std.specs.Prelude.{◌++◌, ◌∷◌, if◌then◌else◌, is_ok, is_some};
-ghost use Rattle.indexmap.specs.IndexMap.{get};
+ghost use Rattle.std.specs.Prelude.{◌≡◌, ◌≢◌, ◌<◌, [], None, length, option_map, slice_get};
 ghost use Rattle.scheduler.specs.Tries.{AreSent, due_notice, if_failed, place_after, place_in, repeated_at, sent_after};
 
 use crate::pace::is_over;
@@ -80,7 +78,7 @@ fn if_failed(failed: &IndexMap<u32, Name>, unit: u32) -> Option<u32>
     }
 }
 
-/// The place, or the first one if there aren't so many.
+/// The place, or the first one if it is past the last.
 fn place_in(place: usize, count: usize) -> usize
     ensures { result ≡ place_in place count }
 {

@@ -18,12 +18,7 @@ impl Desk<'_> {
     /// # Errors
     ///
     /// Out of memory. Nothing is kept then.
-    pub fn hear_notice(
-        &mut self,
-        member: &Member<'_>,
-        from: u8,
-        unit: u32,
-    ) -> Result<(), Memory>
+    pub fn hear_notice(&mut self, member: &Member<'_>, from: u8, unit: u32) -> Result<(), Memory>
         ensures heard { OnOk result (HearsNotice member.now from unit self.old self.new) }
         ensures rest { IsSameButTried self.old self.new }
         ensures left { OnErr result

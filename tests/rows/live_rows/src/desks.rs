@@ -326,7 +326,8 @@ fn a_notice_is_due_at_once_and_once_a_second(rt: HostRuntime) -> Result<(), Fail
         again[place] = desk.next_notice(later);
     }
     for entry in fs::read_dir(&rt, "work/failed")? {
-        let name = entry?.file_name().clone()?;
+        let entry = entry?;
+        let name = entry.file_name();
         let mark = format!(in alloc; "work/failed/{name}")?;
         fs::remove_file(&rt, mark.as_str())?;
     }

@@ -1,4 +1,10 @@
+use Rattle.std.proofs.lemmas.Result.{err_from_is_err_and}
 use Rattle.dpbn_build.proofs.answering.build_on_log.Goals as goal
+
+pub returns-in_err-solo-clause-refused : goal.returns-in_err-solo-clause-refused
+returns-in_err-solo-clause-refused g c =
+    let p = err_from_is_err_and c.from_residual.result c.from_residual.ensures.1 in
+    rw (p.1, p.2) c.in_err-solo.ensures.refused
 
 pub returns-in-Ok-clause-built : goal.returns-in-Ok-clause-built
 returns-in-Ok-clause-built g c =
