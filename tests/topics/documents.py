@@ -219,6 +219,23 @@ def promises(tally: Tally) -> None:
     tally.add("docs/DESIGN.md, its promises", "" if len(rows) == text.count("; definition") else f"{len(rows)} of {text.count('; definition')} are read")
 
 
+def warrants_in(sources: Dict[str, str]) -> List[str]:
+    """The files with an implementation of `Warrant`, once for each."""
+    form = r"^impl\b[^;{]*\bWarrant\s+for\b"
+    return [path for path, source in sorted(sources.items()) for _ in re.findall(form, source, re.MULTILINE)]
+
+
+def one_warrant(tally: Tally) -> None:
+    """Only a node's last step is a warrant. Whatever else were one could let any bytes be sent."""
+    paths = glob.glob(f"{TOP}/crates/*/src/**/*.rt", recursive=True)
+    found = warrants_in({os.path.relpath(path, TOP): contents(path).decode() for path in paths})
+    is_right = found == ["crates/turn_rules/src/last_step.rt"]
+    tally.add("crates, what lets bytes be sent", "" if is_right else f"{found} implement Warrant")
+    sample = {"a": "impl Warrant for A {", "b": "impl<'s, P: Port>\n    Warrant for B<'s, P> {", "c": "fn f<W: Warrant>() {\n    impl_x();"}
+    found = warrants_in(sample)
+    tally.add("tests/run documents, a sample of warrants", "" if found == ["a", "b"] else f"it finds {found}")
+
+
 def one_order(tally: Tally) -> None:
     """crates.txt is bottom up."""
     named = crates()
@@ -392,4 +409,5 @@ def run(tally: Tally) -> None:
     counted(tally)
     leaning(tally)
     places(tally)
+    one_warrant(tally)
     explained.run_documents(tally)

@@ -259,7 +259,7 @@ fn finish<D: Disk, P: Port>(
     ensures uncalled { OnErr result (port.new ≡ port.old) }
 {
     let out = node.finish(ready)?;
-    offer(port, number, &out.sends);
+    offer(node, port, number, &out.sends);
     Ok(())
 }
 

@@ -1,4 +1,5 @@
 pub mod BuildPrograms
+pub mod FirstSent
 pub mod Hosts
 pub mod Laws
 pub mod Missing

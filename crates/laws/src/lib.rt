@@ -8,6 +8,7 @@ mod catching_up;
 mod heard;
 mod on_hosts;
 mod one_world;
+mod over_udp;
 mod programs;
 mod recorded;
 mod reopening;
@@ -19,6 +20,7 @@ pub use crate::on_hosts::{
     stopped_nodes_stay, turns_are_of_a_run, turns_leave_logs, vouched_turns_are_of_a_run,
 };
 pub use crate::one_world::{lone_nodes_hold_alike, lone_nodes_make_a_world};
+pub use crate::over_udp::send_first;
 pub use crate::programs::{
     build_among_programs, build_turns_are_of_programs, exchanges_are_notices,
     node_turns_are_of_programs, programs_make_a_world,

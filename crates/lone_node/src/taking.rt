@@ -114,7 +114,7 @@ fn finish<D: Disk, P: Port>(
 {
     match node.finish(ready) {
         Ok(out) => {
-            offer(port, me, &out.sends);
+            offer(node, port, me, &out.sends);
             Ok(())
         }
         Err(NodeFault::Log(LogFault::Device)) => Err(TurnFault::Down(me)),

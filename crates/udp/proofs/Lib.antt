@@ -1,3 +1,4 @@
+mod Granted
 mod FirstBad
 mod InboxLemmas
 mod NoticeLemmas

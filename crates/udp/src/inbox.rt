@@ -4,7 +4,7 @@ ghost use Rattle.udp.specs.Inbox.{Takes, came_as, is_vouched_for};
 ghost use Rattle.udp.specs.Notices.{is_notice};
 
 use crate::line::{Line, Waiting};
-use crate::told::Told;
+use datagram_ports::Told;
 use seals::Seal;
 use std::alloc::Global;
 use std::marker::Model;

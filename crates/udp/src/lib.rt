@@ -14,7 +14,6 @@ mod patience;
 mod requests;
 mod sockets;
 mod tallies;
-mod told;
 mod udp_port;
 
 pub use crate::addresses::loopback;

@@ -5,7 +5,7 @@ ghost use Rattle.udp.specs.Notices.{IsRead, is_heard};
 
 use crate::inbox::{Came, opened};
 use crate::notice::{Listing, Notice, notice_in};
-use crate::told::Told;
+use datagram_ports::Told;
 use seals::Seal;
 use std::alloc::Global;
 use std::collections::VecDeque;

@@ -1,6 +1,7 @@
 //! Ports over UDP.
 ghost use Rattle.std.specs.Prelude.{◌≡◌, ◌<◌, ◌++◌, [], IfErr, IfOk, IfSome, None, OnErr, OnOk, false, length, option_to_list, true};
 ghost use Rattle.datagram_ports.specs.Calls.{Received, Sent, told};
+ghost use Rattle.datagram_ports.specs.Granted.{DoesAsBefore, IsGranted};
 ghost use Rattle.datagram_ports.specs.Kept.{counted, one_more};
 ghost use Rattle.udp.specs.Calls.{DoesOverUdp, IsEmpty};
 ghost use Rattle.udp.specs.Inbox.{StillVouches, came_as, is_vouched_for};
@@ -25,9 +26,8 @@ use crate::patience::{Hurry, Patience};
 use crate::requests::Requests;
 use crate::sockets::{Seat, Way, address_of, take_seat};
 use crate::tallies::Tallies;
-use crate::told::Told;
 use crate::udp_port::notifying::notify_each;
-use datagram_ports::{Port, PortFault};
+use datagram_ports::{Port, PortFault, Told, Warrant};
 use seals::Seal;
 use std::alloc::Global;
 use std::net::{Net, SocketAddr};
@@ -67,6 +67,8 @@ pub struct UdpPort<'c, C: Clock> {
     leaving: Line<Way>,
     /// What left the queue and was handed to the system.
     handed: Told,
+    /// What may be sent.
+    granted: Told,
     /// Picks the next datagram to leave.
     pick: usize,
     patience: Patience,
@@ -306,6 +308,7 @@ fn port_of<'c, C: Clock>(
         outbox,
         leaving: Line::new(alloc, MOST_LEAVING),
         handed: Told::new(),
+        granted: Told::new(),
         pick: 0,
         patience,
         hurry: Hurry::Patient,
@@ -335,6 +338,8 @@ impl<'c, C: Clock> Port for UdpPort<'c, C> {
     ghost does = { DoesOverUdp };
 
     ghost vouches = { λ p text. is_vouched_for p.inbox.key p.inbox.came text ≡ true };
+
+    ghost may_send = { λ p text. IsGranted p.granted.all text };
 
     fn receive(&mut self) -> Result<Option<(u8, Vec<u8>)>, PortFault>
         ensures cause { self.new.failures ≡ counted result self.old.failures }
@@ -367,7 +372,18 @@ impl<'c, C: Clock> Port for UdpPort<'c, C> {
         }
     }
 
+    fn grant<W: Warrant>(&mut self, warrant: &W, bytes: &[u8])
+        requires { W.covers warrant.now bytes.now }
+        ensures granted { IsGranted self.new.granted.all bytes.now }
+        ensures does { DoesAsBefore DoesOverUdp self.old self.new }
+        ensures vouches_on { StillVouches self.old.inbox self.new.inbox }
+        ensures same { self.new ≡ record self.old { granted = self.new.granted } }
+    {
+        self.granted.note(bytes);
+    }
+
     fn send(&mut self, from: u8, to: u8, bytes: &[u8]) -> Result<(), PortFault>
+        requires { IsGranted self.old.granted.all bytes.now }
         ensures cause { self.new.failures ≡ counted result self.old.failures }
         ensures notices_go_on { NoticesGoOn self.old.notices self.new.notices }
         ensures vouches_on { StillVouches self.old.inbox self.new.inbox }

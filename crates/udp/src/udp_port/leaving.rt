@@ -9,8 +9,8 @@ ghost use Rattle.udp.specs.Ways.{HasNoSeat, HasWay, IsSeatOf, LeavesBy, in_line}
 use crate::line::Waiting;
 use crate::sockets::{Seat, Sent, Way, hand_over, seat_of, way_of};
 use crate::tallies::Tallies;
-use crate::told::Told;
 use crate::udp_port::UdpPort;
+use datagram_ports::Told;
 use faults::Memory;
 use std::thread;
 use std::time::{Clock, Duration};

@@ -21,12 +21,12 @@ use denote.Triple.Entry.{on_entry}
 use denote.Triple.Spec.{Meets, triple_of}
 use denote.Triple.Table.{entered}
 use denote.Triple.Walked.{says, ends_at, walked, walk_Meets}
-use Rattle.udp.specs.declared.told.Told.{Told}
-use Rattle.udp.specs.contracts.told.Told as T
-use Rattle.udp.specs.contracts.told.Told.new.Key.{name as #it}
-use Rattle.udp.specs.contracts.told.Told.new as it
-use Rattle.udp.proofs.told.Told.new.Statement as stated
-use Rattle.udp.proofs.told.Told.new.Code as code
+use Rattle.datagram_ports.specs.declared.told.Told.{Told}
+use Rattle.datagram_ports.specs.contracts.told.Told as T
+use Rattle.datagram_ports.specs.contracts.told.Told.new.Key.{name as #it}
+use Rattle.datagram_ports.specs.contracts.told.Told.new as it
+use Rattle.datagram_ports.proofs.told.Told.new.Statement as stated
+use Rattle.datagram_ports.proofs.told.Told.new.Code as code
 
 abbrev v : Val
 v = vstruct (vcons (vstruct vnil) vnil)

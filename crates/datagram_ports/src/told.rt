@@ -4,7 +4,7 @@ ghost use Rattle.std.specs.Borrow.{ftrue};
 
 use std::marker::{Model, PhantomData};
 
-/// The bytes that were received, or that were handed to the system, in order. Only contracts see
+/// Texts that a port received, handed to the system or was granted, in order. Only contracts see
 /// them; they take no memory.
 #[derive(Drop)]
 pub struct Told {
@@ -18,7 +18,7 @@ impl Model for Told {
 
 impl Told {
     /// An empty list.
-    pub(crate) fn new() -> Told
+    pub fn new() -> Told
         ensures { result.all ≡ [] }
     {
         Told {
@@ -27,7 +27,7 @@ impl Told {
     }
 
     /// Appends these bytes.
-    pub(crate) fn note(&mut self, _bytes: &[u8])
+    pub fn note(&mut self, _bytes: &[u8])
         ensures { self.new.all ≡ self.old.all ++ _bytes.now ∷ [] }
     {}
 }

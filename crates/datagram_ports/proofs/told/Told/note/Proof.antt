@@ -25,12 +25,12 @@ use denote.Triple.Entry.{on_entry}
 use denote.Triple.Spec.{Meets, triple_of}
 use denote.Triple.Table.{entered}
 use denote.Triple.Walked.{says, Stays, stay_ref, walk_of, AllGo, Goes-ref, Walks, ends_at, walked, walk_Meets}
-use Rattle.udp.specs.declared.told.Told.{Told}
-use Rattle.udp.specs.contracts.told.Told as T
-use Rattle.udp.specs.contracts.told.Told.note.Key.{name as #it}
-use Rattle.udp.specs.contracts.told.Told.note as it
-use Rattle.udp.proofs.told.Told.note.Statement as stated
-use Rattle.udp.proofs.told.Told.note.Code as code
+use Rattle.datagram_ports.specs.declared.told.Told.{Told}
+use Rattle.datagram_ports.specs.contracts.told.Told as T
+use Rattle.datagram_ports.specs.contracts.told.Told.note.Key.{name as #it}
+use Rattle.datagram_ports.specs.contracts.told.Told.note as it
+use Rattle.datagram_ports.proofs.told.Told.note.Statement as stated
+use Rattle.datagram_ports.proofs.told.Told.note.Code as code
 use denote.Ref.{Bor}
 use denote.Builtin.{u8}
 use denote.Exit.{yes}
