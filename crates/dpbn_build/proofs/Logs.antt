@@ -1,7 +1,7 @@
 -- A log that has no notes, and one on which no node starts.
-use Rattle.std.proofs.Common.{◌≡◌, ◌∙◌, Bool, Option, inl, inr, subst, sym}
+use Rattle.std.proofs.Common.{◌≡◌, ◌∙◌, ℕ, Bool, Option, inl, inr, subst, sym}
 use Rattle.dpbn_build.specs.Build.{LacksNotes}
-use Rattle.dpbn_node.specs.Starts.{AnyMode, AnyRunFile, IsStartRefusal}
+use Rattle.dpbn_node.specs.Starts.{IsStartRefusal}
 use Rattle.faults.specs.Bytes.{Text}
 use Rattle.program_io.specs.declared.refusal.Refusal.{Refusal}
 use Rattle.run_file.specs.Found.{IsFound}
@@ -33,14 +33,14 @@ module _ (i : Identity) (before after : FileDisk)
         inr (subst (λ h. IsFound i (seen h) Fresh) (sym (same agrees)) (found agrees))
 
 -- a refusal of one owner's log is a refusal of the other's, which is the same
-pub start_refusal : (i j : Identity) → i ≡ j → (r : Refusal)
+pub start_refusal : (had_mode : ℕ → Type 0) (gave : Option Text → Type 0) (i j : Identity)
+    → i ≡ j → (r : Refusal)
     → ((shown : Option Text) (is_continued : Bool)
-    → IsStartRefusal AnyMode AnyRunFile i shown is_continued r)
+    → IsStartRefusal had_mode gave i shown is_continued r)
     → (shown : Option Text) (is_continued : Bool)
-    → IsStartRefusal AnyMode AnyRunFile j shown is_continued r
-start_refusal i j same r is shown is_continued =
-    subst (λ k. IsStartRefusal AnyMode AnyRunFile k shown is_continued r) same
-    (is shown is_continued)
+    → IsStartRefusal had_mode gave j shown is_continued r
+start_refusal had_mode gave i j same r is shown is_continued =
+    subst (λ k. IsStartRefusal had_mode gave k shown is_continued r) same (is shown is_continued)
 
 -- the log was only looked at once more
 pub still_started : (gave : Option Text → Type 0) (known : History) (i : Identity)

@@ -94,10 +94,11 @@ abbrev pub RefusesWork : Bool → Refusal → Type 0
 RefusesWork has_notes r =
     (IsSystemRefusal r ⊎ (r ≡ shared_refusal)) ⊎ ((has_notes ≡ false) × (r ≡ work_refusal))
 
--- the refusals of the start in the run, and of the work folder
-abbrev pub RefusesBuildOn : RunOf → ℕ → Refusal → Type 0
-RefusesBuildOn of me r =
-    RefusesStart AnyMode AnyRunFile me of r ⊎ ((r ≡ work_refusal) ⊎ (r ≡ shared_refusal))
+-- the refusals of the start in the run, in a folder that may have had these modes and gave these run
+-- files, and of the work folder
+abbrev pub RefusesBuildOn : (ℕ → Type 0) → (Option Text → Type 0) → RunOf → ℕ → Refusal → Type 0
+RefusesBuildOn had_mode gave of me r =
+    RefusesStart had_mode gave me of r ⊎ ((r ≡ work_refusal) ⊎ (r ≡ shared_refusal))
 
 -- the refusals before the first turn: of the listing, of the weights, of the key's file and the
 -- hosts, and of the start and the work folder in the run that the words name
@@ -106,4 +107,4 @@ RefusesBuild site me peers run r =
     RefusesListingFile site.is_single r
     ⊎ (RefusesWeights r
     ⊎ (RefusesPlace AnyKeyFile site.members peers run r
-    ⊎ ((of : RunOf) × IsTold site peers run of × RefusesBuildOn of me r)))
+    ⊎ ((of : RunOf) × IsTold site peers run of × RefusesBuildOn AnyMode AnyRunFile of me r)))

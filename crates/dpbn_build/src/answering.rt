@@ -1,5 +1,16 @@
 //! The command `dpbn build`.
-ghost use Rattle.std.specs.Prelude.{◌≡◌, ◌<◌, ◌≤◌, IfErr, IfOk, false, length};
+ghost use Rattle.std.specs.Prelude.{
+  ◌≡◌,
+  ◌<◌,
+  ◌≤◌,
+  ℕ,
+  IfErr,
+  IfOk,
+  List,
+  Option,
+  false,
+  length,
+};
 ghost use Rattle.dpbn_build.specs.Build.{
   IsBuildText,
   IsLineAfter,
@@ -11,8 +22,7 @@ ghost use Rattle.dpbn_build.specs.Build.{
   status_of,
 };
 ghost use Rattle.dpbn_node.specs.Runs.{AreGood, IsOfNode, IsOfNodeOn, RefusesOnLog, letters_of, run_at};
-ghost use Rattle.dpbn_node.specs.Starts.{AnyMode, AnyRunFile, IsStartRefusal};
-ghost use Rattle.run_file.specs.Looking.{empty_past};
+ghost use Rattle.dpbn_node.specs.Starts.{IsStartRefusal};
 ghost use Rattle.stable_record.specs.RealFile.{file_agrees, file_history};
 
 use crate::ending::Rest;
@@ -32,7 +42,7 @@ use engine::{Counts, Units};
 use job_folder::Folder;
 use listing::Tree;
 use program_io::{Answer, Refusal, node_text, tree_of_file};
-use run_file::{LogFound, Start, StartFault, SupposedEmpty, SystemFolder, found_in};
+use run_file::{LogFolder, LogFound, Start, StartFault, SupposedEmpty, SystemFolder, found_in};
 use scheduler::{Desk, Pace};
 use stable_record::{Disk, FileDisk, Identity};
 use std::alloc::{AllocError, Global};
@@ -77,12 +87,14 @@ pub fn build_of_words<E: Write>(
     let weights = weights_of_words(rt.alloc(), site.members, site.weights)?;
     let keys = SystemKeys::of(rt);
     let place = place_of_words(rt.alloc(), &keys, site.members, peers, patience, run)?;
-    build_on(rt, &tree, &weights, site, me, place, err)
+    let folder: SystemFolder<'_, SupposedEmpty> = SystemFolder::at(rt, site.dir);
+    build_on(rt, &folder, &tree, &weights, site, me, place, err)
 }
 
-/// Runs the member's node, which starts at this place.
-fn build_on<E: Write>(
+/// Runs the member's node, which starts at this place on its log in the folder.
+fn build_on<F: LogFolder, E: Write>(
     rt: &HostRuntime,
+    folder: &F,
     tree: &Tree,
     weights: &Weights,
     site: &Site<'_>,
@@ -92,15 +104,16 @@ fn build_on<E: Write>(
 ) -> Result<Answer, Refusal>
     requires { length place.addresses.items ≡ length weights.now }
     ensures built { IfOk result (λ answer. (me < length weights.now)
-        × IsOfNode AnyRunFile empty_past.calls (run_at tree.now weights.now place) me
+        × IsOfNode (F.gave folder.now me) (F.known folder.now me)
+        (run_at tree.now weights.now place) me
         (λ before. IsLineAfter site.now.rest before me answer.text.items answer.status)) }
-    ensures refused { IfErr result (RefusesBuildOn (run_at tree.now weights.now place) me) }
+    ensures refused { IfErr result (RefusesBuildOn (F.had_mode folder.now)
+        (F.gave folder.now me) (run_at tree.now weights.now place) me) }
 {
     let telling = Telling::new(rt.alloc(), me, None, place.sealing.is_watched());
-    let folder: SystemFolder<'_, SupposedEmpty> = SystemFolder::at(rt, site.dir);
     let mut place = place;
     place.units = Some(Units::new(rt.alloc(), tree)?.len());
-    let begun = begin(rt, tree, weights, &folder, me, place)?;
+    let begun = begin(rt, tree, weights, folder, me, place)?;
     let Begun { start, port } = begun;
     let Start { disk, unwritten } = start;
     let mut disk = disk;
@@ -120,8 +133,9 @@ pub fn has_notes(disk: &mut FileDisk, owner: &Identity) -> Result<bool, Refusal>
     ensures lacks { IfOk result (λ has. has ≡ false → LacksNotes owner.now disk.new) }
     ensures kept { file_agrees disk.new → file_agrees disk.old }
     ensures same { file_agrees disk.new → file_history disk.new ≡ file_history disk.old }
-    ensures refused { IfErr result (λ r. (shown : _) (is_continued : _)
-        → IsStartRefusal AnyMode AnyRunFile owner.now shown is_continued r) }
+    ensures refused { IfErr result (λ r. (had_mode : ℕ → Type 0)
+        (gave : Option (List ℕ) → Type 0) (shown : _) (is_continued : _)
+        → IsStartRefusal had_mode gave owner.now shown is_continued r) }
 {
     match found_in(disk, owner) {
         Ok(LogFound::Noted) => Ok(true),

@@ -7,8 +7,10 @@ pub returns-in_err-is_noted-clause-refused : goal.returns-in_err-is_noted-clause
 returns-in_err-is_noted-clause-refused g c =
     let p = err_from_is_err_and c.from_residual-in_err-is_noted.result
     c.from_residual-in_err-is_noted.ensures.1 in
-    rw (p.1, p.2) (inl (inr (inr (inl (start_refusal _ _ c.identity_of.ensures _
-    c.in_err-is_noted.ensures.refused _ _)))))
+    let had_mode = g.F.LogFolder.had_mode c.args.folder.now in
+    let gave = g.F.LogFolder.gave c.args.folder.now c.args.me in
+    rw (p.1, p.2) (inl (inr (inr (inl (start_refusal had_mode gave _ _ c.identity_of.ensures _
+    (c.in_err-is_noted.ensures.refused had_mode gave) _ _)))))
 
 pub returns-in_err-office-clause-refused : goal.returns-in_err-office-clause-refused
 returns-in_err-office-clause-refused g c =
