@@ -22,8 +22,8 @@ use std::alloc::Global;
 ///
 /// - The system's refusal, also if the log is locked.
 /// - Others may write in the folder.
-/// - The log can't be read; it is lost or belongs to another run; or it is missing, although the run
-///   is continued.
+/// - The log can't be read; it is lost, or belongs to another run; or it is missing although the
+///   run is continued.
 pub fn start_of<F: LogFolder>(
     alloc: Global,
     folder: &F,
