@@ -1,14 +1,19 @@
 -- A log that has no notes, and one on which no node starts.
-use Rattle.std.proofs.Common.{◌≡◌, ◌∙◌, ℕ, Bool, Option, inl, inr, subst, sym}
-use Rattle.dpbn_build.specs.Build.{LacksNotes}
-use Rattle.dpbn_node.specs.Starts.{IsStartRefusal}
+use Rattle.std.proofs.Common.{◌≡◌, ◌∙◌, ℕ, Bool, Option, inl, inr, option_map, string_bytes, subst, sym}
+use Rattle.dpbn_build.specs.Build.{IsDiskRefusal, LacksNotes}
+use Rattle.dpbn_node.specs.Keys.{shown_of}
+use Rattle.dpbn_node.specs.Runs.{HasBegun, RunOf}
+use Rattle.dpbn_node.specs.Starts.{IsStartRefusal, owner}
+use Rattle.dpbn_node.specs.declared.starting.Begun.{Begun}
 use Rattle.faults.specs.Bytes.{Text}
 use Rattle.program_io.specs.declared.refusal.Refusal.{Refusal}
 use Rattle.run_file.specs.Found.{IsFound}
+use Rattle.run_file.specs.declared.fault.StartFault.TheVariants.{Device, Memory}
 use Rattle.run_file.specs.declared.judging.LogFound.TheVariants.{Absent, Blank, Fresh}
 use Rattle.run_file.specs.Starts.{IsStarted}
 use Rattle.stable_record.specs.History.{History, seen}
 use Rattle.stable_record.specs.RealFile.{file_agrees, file_history}
+use Rattle.stable_record.specs.declared.disk_fault.DiskFault.TheVariants as disk
 use Rattle.stable_record.specs.declared.file_disk.FileDisk.{FileDisk}
 use Rattle.stable_record.specs.declared.identity.Identity.{Identity}
 
@@ -32,18 +37,15 @@ module _ (i : Identity) (before after : FileDisk)
     lacks_fresh found agrees =
         inr (subst (λ h. IsFound i (seen h) Fresh) (sym (same agrees)) (found agrees))
 
--- a refusal of one owner's log is a refusal of the other's, which is the same
-pub start_refusal : (had_mode : ℕ → Type 0) (gave : Option Text → Type 0) (i j : Identity)
-    → i ≡ j → (r : Refusal)
-    → ((shown : Option Text) (is_continued : Bool)
-    → IsStartRefusal had_mode gave i shown is_continued r)
-    → (shown : Option Text) (is_continued : Bool)
-    → IsStartRefusal had_mode gave j shown is_continued r
-start_refusal had_mode gave i j same r is shown is_continued =
-    subst (λ k. IsStartRefusal had_mode gave k shown is_continued r) same (is shown is_continued)
+-- of a log that can't be read none starts
+pub start_refusal : (had_mode : ℕ → Type 0) (gave : Option Text → Type 0) (i : Identity)
+    (shown : Option Text) (is_continued : Bool) (r : Refusal) → IsDiskRefusal r
+    → IsStartRefusal had_mode gave i shown is_continued r
+start_refusal had_mode gave i shown is_continued r (disk.Memory, is) = (Memory, tt, is)
+start_refusal had_mode gave i shown is_continued r (disk.Device, is) = (Device, tt, is)
 
 -- the log was only looked at once more
-pub still_started : (gave : Option Text → Type 0) (known : History) (i : Identity)
+still_started : (gave : Option Text → Type 0) (known : History) (i : Identity)
     (key : Option Text) (is_continued : Bool) (before after : FileDisk) (unwritten : Option Text)
     → (file_agrees after → file_agrees before)
     → (file_agrees after → file_history after ≡ file_history before)
@@ -58,4 +60,25 @@ still_started gave known i key is_continued before after unwritten kept same sta
     looked = λ agrees. same agrees ∙ started.planned.looked (kept agrees);
   };
   is_unwritten = started.is_unwritten;
+}
+
+-- a start whose log has now this disk
+abbrev pub on_disk : Begun → FileDisk → Begun
+on_disk begun disk = record {
+  start = record { disk = disk; unwritten = begun.start.unwritten };
+  port = begun.port;
+}
+
+-- it is a start still, if the log was only looked at once more
+pub still_begun : (gave : Option Text → Type 0) (known : History) (of : RunOf) (me : ℕ)
+    (begun : Begun) (disk : FileDisk) → (file_agrees disk → file_agrees begun.start.disk)
+    → (file_agrees disk → file_history disk ≡ file_history begun.start.disk)
+    → HasBegun gave known of me begun → HasBegun gave known of me (on_disk begun disk)
+still_begun gave known of me begun disk kept same has = record {
+  started = still_started gave known (owner of.tree of.weights me) (shown_of of.key)
+      of.is_continued begun.start.disk disk (option_map string_bytes begun.start.unwritten) kept
+      same has.started;
+  seated = has.seated;
+  guarded = has.guarded;
+  empty = has.empty;
 }
