@@ -83,8 +83,8 @@ abbrev pub LacksNotes : Identity → FileDisk → Type 0
 LacksNotes i log = file_agrees log
     → IsFound i (seen (file_history log)) Blank ⊎ IsFound i (seen (file_history log)) Fresh
 
--- The owner's log has notes, or is no log: as long as its file does what its history says, no log is
--- to be made of it, and it has another length than a log without notes.
+-- The owner's log has notes, or is no log: as long as its file does what its history says, no log
+-- is to be made of it, and it has another length than a log without notes.
 abbrev pub IsNoted : Identity → FileDisk → Type 0
 IsNoted i log = file_agrees log → IsFound i (seen (file_history log)) Noted
 
@@ -106,9 +106,9 @@ abbrev pub RefusesWork : Bool → Refusal → Type 0
 RefusesWork has_notes r =
     (IsSystemRefusal r ⊎ (r ≡ shared_refusal)) ⊎ ((has_notes ≡ false) × (r ≡ work_refusal))
 
--- A start in the run was made for the member, on a log without notes, in a folder in which a read of
--- its run file gave this, and about whose log this is supposed.
-pub record HasBegunUnnoted (gave : Option Text → Type 0) (known : History) (of : RunOf) (me : ℕ)
+-- A start in the run was made for the member, on a log without notes, in a folder in which a read
+-- of its run file gave this, and about whose log this is supposed.
+pub record HasBegunWithoutNotes (gave : Option Text → Type 0) (known : History) (of : RunOf) (me : ℕ)
     : Type 0 where
   pub begun : Begun
   pub has_begun : HasBegun gave known of me begun
@@ -121,7 +121,7 @@ abbrev pub RefusesBuildOn : (ℕ → Type 0) → (Option Text → Type 0) → Hi
     → Type 0
 RefusesBuildOn had_mode gave known of me r =
     RefusesStart had_mode gave me of r
-    ⊎ (((r ≡ work_refusal) × HasBegunUnnoted gave known of me) ⊎ (r ≡ shared_refusal))
+    ⊎ (((r ≡ work_refusal) × HasBegunWithoutNotes gave known of me) ⊎ (r ≡ shared_refusal))
 
 -- the refusals before the first turn: of the listing, of the weights, of the key's file and the
 -- hosts, and of the start and the work folder in the run that the words name
