@@ -109,7 +109,7 @@ fn build_on<F: LogFolder, E: Write>(
     ensures refused { IfErr result (RefusesBuildOn (F.had_mode folder.now)
         (F.gave folder.now me) (F.known folder.now me) (run_at tree.now weights.now place) me) }
 {
-    let telling = Telling::new(rt.alloc(), me, None, place.sealing.is_watched());
+    let is_watched = place.sealing.is_watched();
     let mut place = place;
     place.units = Some(Units::new(rt.alloc(), tree)?.len());
     let begun = begin(rt, tree, weights, folder, me, place)?;
@@ -117,6 +117,7 @@ fn build_on<F: LogFolder, E: Write>(
     let Start { disk, unwritten } = start;
     let mut disk = disk;
     let is_noted = has_notes(&mut disk, &identity_of(tree, weights, me))?;
+    let telling = Telling::new(rt.alloc(), me, None, is_watched);
     let office = office_of(rt, site, me, is_noted, telling)?;
     let start = Start { disk, unwritten };
     build_on_log(rt, start, port, office, tree, weights, site, me, err)
