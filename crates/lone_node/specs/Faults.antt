@@ -28,14 +28,16 @@ WantsMemory port old new handed =
     × (new.node.node ≡ old.node.node)
 
 -- The node refused what was chosen.
-abbrev pub RefusesChoice : {D P : Type 0} → Port P → SoloState D P → SoloState D P → Handed → NodeFault → Type 0
+abbrev pub RefusesChoice : {D P : Type 0} → Port P → SoloState D P → SoloState D P → Handed
+    → NodeFault → Type 0
 RefusesChoice port old new handed f =
     (asked : Asked) × IsChosen port old new handed [] (Some (me_of old, asked))
     × IsRefusedBy old.node new.node asked f
 
 -- The node went down. The note of its step went to the device, and `leaves` holds of what the node
 -- was asked.
-abbrev pub GoesDown : {D P : Type 0} → Port P → SoloState D P → SoloState D P → Handed → (Asked → Type 0) → ℕ → Type 0
+abbrev pub GoesDown : {D P : Type 0} → Port P → SoloState D P → SoloState D P → Handed
+    → (Asked → Type 0) → ℕ → Type 0
 GoesDown port old new handed leaves k =
     (asked : Asked) × IsChosen port old new handed [] (Some (me_of old, asked))
     × (k ≡ me_of old) × HasTried old.node asked
@@ -43,7 +45,8 @@ GoesDown port old new handed leaves k =
 
 -- The cause of each refusal, and the state that it leaves. The port was asked only as for a choice,
 -- and was offered nothing. `NotSent` and `NotFresh` don't occur.
-abbrev pub IsTurnFault : {D P : Type 0} → Port P → SoloState D P → SoloState D P → Handed → (Asked → Type 0) → TurnFault
+abbrev pub IsTurnFault : {D P : Type 0} → Port P → SoloState D P → SoloState D P → Handed
+    → (Asked → Type 0) → TurnFault
     → Type 0
 IsTurnFault port old new handed leaves Memory =
     WantsMemory port old new handed

@@ -36,8 +36,8 @@ IsVouchedFor port state (Some d) = port.vouches state d.1
 -- It is the turn's choice, given what a receive returned, which the port vouched for as the receive
 -- left it. The port went through exactly these calls: one receive or none, and then the sends of
 -- these datagrams.
-pub record IsChosen {D P : Type 0} (port : Port P) (old new : SoloState D P)
-    (handed : Handed) (parcels : List Parcel) (chosen : Chosen) : Type 0 where
+pub record IsChosen {D P : Type 0} (port : Port P) (old new : SoloState D P) (handed : Handed)
+    (parcels : List Parcel) (chosen : Chosen) : Type 0 where
   pub answer : Result Arrived PortFault
   pub looked : GoesOnBy (looked_for (has_work old handed) (came_by answer)) (port.given old.port)
       (port.given new.port)
@@ -50,8 +50,8 @@ pub record IsChosen {D P : Type 0} (port : Port P) (old new : SoloState D P)
 
 -- The node took its step on what it was asked, and its log had room for the note. The state between
 -- turns was updated, and exactly the step's sends were offered.
-pub record HasTaken {D P : Type 0} (port : Port P) (old new : SoloState D P) (handed : Handed) (asked : Asked)
-    : Type 0 where
+pub record HasTaken {D P : Type 0} (port : Port P) (old new : SoloState D P) (handed : Handed)
+    (asked : Asked) : Type 0 where
   pub taken : Taken
   pub takes : Takes old.node.node asked (Ok taken)
   pub room : ¬ IsFull old.node.node taken.answer.note
@@ -68,14 +68,13 @@ IsHeard port state (Comes text) = port.vouches state text
 IsHeard port state (Does input) = ⊤
 
 -- Nothing was offered.
-abbrev pub OffersNothing : {D P : Type 0} → Port P → SoloState D P
-    → SoloState D P → Type 0
+abbrev pub OffersNothing : {D P : Type 0} → Port P → SoloState D P → SoloState D P → Type 0
 OffersNothing port old new = GoesOnBy [] (port.offered old.port) (port.offered new.port)
 
 -- A crash at any moment of the turn leaves the notes, with that of the step on what was asked, or
 -- without it.
-abbrev pub LeavesAtMost : {D P : Type 0} → Disk D → SoloState D P
-    → SoloState D P → Asked → Type 0
+abbrev pub LeavesAtMost : {D P : Type 0} → Disk D → SoloState D P → SoloState D P → Asked
+    → Type 0
 LeavesAtMost disk old new asked =
     disk.is_kept new.node.log.disk → IsOnLog disk.history old.node
     → LeavesItsNoteAtMost old.node.node asked (disk.history old.node.log.disk)
@@ -83,8 +82,7 @@ LeavesAtMost disk old new asked =
 
 -- If the disk keeps to the disk model, and the node, unless it was stopped, was on its log, then
 -- nothing was done to the disk: no write or cut had an effect, and no sync succeeded.
-abbrev pub IsUntouched : {D P : Type 0} → Disk D → SoloState D P
-    → SoloState D P → Type 0
+abbrev pub IsUntouched : {D P : Type 0} → Disk D → SoloState D P → SoloState D P → Type 0
 IsUntouched disk old new =
     disk.is_kept new.node.log.disk → (old.node.node.stopped ≡ false → IsOnLog disk.history old.node)
     → disk.history new.node.log.disk ≡ disk.history old.node.log.disk

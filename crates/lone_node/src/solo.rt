@@ -92,8 +92,7 @@ impl<'a, D: Disk, P: Port> Solo<'a, D, P> {
     ///
     /// Those of `turn_with`.
     pub fn turn(&mut self, builds: &Packages) -> Result<Option<Act>, TurnFault>
-        ensures { IsTurn D.Disk P.Port
-            (AllBuilds builds.now) self.old self.new result }
+        ensures { IsTurn D.Disk P.Port (AllBuilds builds.now) self.old self.new result }
     {
         self.turn_with(Some(builds), Initiative::Own)
     }
@@ -172,8 +171,8 @@ impl<'a, D: Disk, P: Port> Solo<'a, D, P> {
         // The node took its step on the turn's choice. The port went through exactly these calls:
         // one receive, unless a job was answered, and then the step's sends. It vouches for bytes
         // that the node took.
-        ensures taken { IfOk result (λ o. IfSome o (λ act. HasTaken P.Port self.old self.new (handed (option_map (λ b. b.now) made.entry) initiative)
-            (asked_by act))) }
+        ensures taken { IfOk result (λ o. IfSome o (λ act. HasTaken P.Port self.old self.new
+            (handed (option_map (λ b. b.now) made.entry) initiative) (asked_by act))) }
         ensures heard { IfOk result (λ o. IfSome o
             (λ act. IsHeard P.Port self.new.port (asked_by act))) }
 

@@ -74,7 +74,8 @@ pub record IsNotTaken {D : Type 0} (old new : LoggedNode D) (chosen : Chosen) (f
   pub leaves : new.node ≡ left_by old.node (Comes text) refusal
 
 -- The prepared step was taken, and exactly its sends were offered.
-pub record TookStep {D P : Type 0} (port : Port P) (old new : SoloState D P) (asked : Asked) : Type 0 where
+pub record TookStep {D P : Type 0} (port : Port P) (old new : SoloState D P) (asked : Asked)
+    : Type 0 where
   pub taken : Taken
   pub takes : Takes old.node.node asked (Ok taken)
   pub room : ¬ IsFull old.node.node taken.answer.note
