@@ -100,8 +100,8 @@ abbrev pub is_given_up : Desk → State → ℕ → Bool
 is_given_up d s u =
     not (is_for s.claim u) && nat_le d.pace.tries (tries_at (get nat_eq d.failed_elsewhere u))
 
--- Whether the unit may not be claimed: it is out, or it failed here, or it is given up, or no round is
--- left for it, or it is left to other members.
+-- Whether the unit may not be claimed: it is out, or it failed here, or it is given up, or no round
+-- is left for it, or it is left to other members.
 abbrev pub barred_at : Desk → State → Option Instant → Sought → Barred
 barred_at d s at sought u =
     has_unit d.out.items u
@@ -157,14 +157,14 @@ has_rounds s u = nat_lt u (length s.division.units) && not (is_spent s u)
 
 -- ---- which units are to be claimed
 
--- Above which round a unit is claimed at least. A unit that was queued while the node was up begins
--- at round 2. So a node that starts later and claims it at round 1 gets a nay.
+-- Above which round a unit is claimed at least. A unit that others may have claimed before the node's
+-- start begins at round 1, any other unit at round 2. So a node that starts late gets a nay.
 abbrev pub least_above : Bool → ℕ
 least_above true = 0
 least_above false = 1
 
 -- Above which round the unit is claimed, besides what the member promised: the round that a nay
--- named, and the first round, unless the unit was queued when a late node had caught up.
+-- named, and the first round, unless others may have claimed the unit before the node's start.
 abbrev pub above_for : Desk → ℕ → ℕ
 above_for d u = max (round_named (get nat_eq d.named u)) (least_above (contains nat_eq d.early u))
 
@@ -210,8 +210,8 @@ abbrev pub has_place : Desk → Bool
 has_place d =
     not d.holds_off && (not d.is_catching_up && nat_lt (length d.out.items) d.pace.jobs)
 
--- It is a claim anew for a unit that is out; or a new one, and the desk has a place for it. What was
--- the member's own before its start comes first.
+-- It is a claim anew for a unit that is out; or a new claim, and the desk has a place for it. What
+-- was the member's own before its start comes first.
 abbrev pub IsClaimWished : State → Desk → Instant → Wish → Type 0
 IsClaimWished s d now wish =
     ((u : ℕ) × IsClaimedAnew s d u × (wish ≡ Claim (name_at s u) (above_at d s u)))

@@ -90,8 +90,8 @@ impl Desk<'_> {
             || self.is_left(member, unit, at, sought)
     }
 
-    /// Whether nobody claims the unit any more, since its builds failed at as many members as it may
-    /// be tried at. The claim that is open goes on.
+    /// Whether nobody claims the unit any more, since its builds failed at as many members as it
+    /// may be tried at. The claim that is open goes on.
     fn is_given_up(&self, member: &Member<'_>, unit: u32) -> bool
         ensures { result ≡ is_given_up self.now member.now unit }
     {
@@ -175,8 +175,9 @@ impl Desk<'_> {
     }
 
     /// Above which round the unit is claimed, besides what the member promised: the round that a
-    /// nay named; and the first round, if the unit was queued while this node was up. So a node
-    /// that starts late and claims it at round 1 gets a nay, whichever number it has.
+    /// nay named; and the first round, unless others may have claimed the unit before this node's
+    /// start. So a node that starts late and claims it at round 1 gets a nay, whichever number it
+    /// has.
     pub(crate) fn above_for(&self, unit: u32) -> u64
         ensures { result ≡ above_for self.now unit }
     {
