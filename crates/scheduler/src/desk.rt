@@ -72,7 +72,7 @@ pub struct Desk<'f> {
     resumes: bool,
     /// Units that others may have claimed before this node's start. They are those that were queued
     /// when it had caught up: all of them if it is known to have started late, or else those that
-    /// this member claims first.
+    /// other members claim first.
     early: IndexSet<u32>,
     /// The position after that of the last question.
     next: u32,
@@ -313,7 +313,7 @@ fn note(units: &mut Vec<u32>, unit: u32) -> Result<(), Memory>
     Ok(())
 }
 
-/// The units that are queued: all of them, or those that this member claims first.
+/// The units that are queued: all of them, or those that other members claim first.
 fn queued_units(alloc: Global, member: &Member<'_>, is_all: bool) -> Result<IndexSet<u32>, Memory> {
     let mut units = IndexSet::new(alloc);
     let mut from = 0;
@@ -322,7 +322,7 @@ fn queued_units(alloc: Global, member: &Member<'_>, is_all: bool) -> Result<Inde
             return Ok(units);
         };
         if let Some(unit) = member.units().unit_of(position) {
-            if is_all || turn_of(member, unit) == 0 {
+            if is_all || turn_of(member, unit) != 0 {
                 units.insert(unit)?;
             }
         }
