@@ -664,6 +664,9 @@ def one_folder(tally):
         first, second, _ = hosts
         for host in hosts:
             host.start_node("--takeover", "1")
+            # a node refuses a folder that has jobs, as long as its log has no notes: so the next one, with which there is a majority,
+            # starts once this one has opened it
+            until(lambda: os.path.exists(f"{host.run.folder}/logs/node-{host.me}.run"))
         first.hand_in("done", first.job("a/b"), b'{"a/b":[]}')
         is_first = until(lambda: all(held(host) == 1 for host in hosts))
         second.kill("node")
@@ -1144,6 +1147,29 @@ def late_claims(tally):
         check(tally, "a node that starts late, what there is to leave", posted, last_of(*hosts))
         # it asks, and claims what nobody says is taken within a slot of 250 ms
         check(tally, "a node that starts late, what it leaves to others", not found, found, last_of(*hosts), timed=True)
+
+
+def started_later(tally):
+    """Two hosts build units of their own, and nothing is held yet, when the third one starts, which has places and nothing of its own. It
+    leaves these units to them, although it never heard of their claims."""
+    # the third host comes first for the second unit and the fifth one
+    listing = plain(6) + "a/p01.BUILD_DEPENDS=a/p00\na/p04.BUILD_DEPENDS=a/p00\n"
+    with several("".join(sorted(listing.splitlines(True))), "work-0", "work-1", "work-2") as hosts:
+        early, last = hosts[:2], hosts[2]
+        for host in early:
+            host.start_node("--jobs", "4")
+        wanted = [["a/p00", "a/p03"], ["a/p02", "a/p05"]]
+        are_posted = until(lambda: [sorted(host.jobs()) for host in early] == wanted)
+        last.start_node("--jobs", "4")
+        is_up = until(lambda: any(map(LINE.fullmatch, last.lines())))
+        # it asks for a slot's time, and claims what isn't its own after two slots more
+        time.sleep(5)
+        posted = [sorted(host.jobs()) for host in hosts]
+        right = are_posted and is_up and posted == [*wanted, []]
+        check(tally, "a node that starts before anything is held", right, are_posted, is_up, posted, last_of(*hosts))
+        answered = set()
+        is_held = until(lambda: answers_all(hosts, (), answered) or all(held(host) == 6 for host in hosts))
+        check(tally, "a node that starts before anything is held, what all hold", is_held, [held(host) for host in hosts], last_of(*hosts))
 
 
 # ---- what is sent, and memory
@@ -1693,4 +1719,4 @@ def run(tally):
     beside(tally, (answers, rests_behind_all_jobs, taken_away, killed_while_it_builds, one_folder, overtaken, left_to_another, other_runs,
                    beside_nodes, quiet, unanswered, voted_by_nobody, no_majority, long_run, manual_page, readme, lost_disks,
                    a_host_that_cannot_build, away, late_claims, own_again, unattended, touched_lock, restarted_last, failed_at_four,
-                   tried_again, unwritten_mark, answered_slowly, own_first))
+                   tried_again, unwritten_mark, answered_slowly, own_first, started_later))
