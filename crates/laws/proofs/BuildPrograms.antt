@@ -21,7 +21,7 @@ set_twice (z ∷ zs) zero x y = refl
 set_twice (z ∷ zs) (suc k) x y = ap (λ l. z ∷ l) (set_twice zs k x y)
 
 module _ (tree : Tree) (weights : List ℕ) (k : ℕ) (first : Programs) where
-  -- the turns of `dpbn build`, before each of which its port exchanges notices and is told how long to wait
+  -- the turns of `dpbn build`, before each of which its port exchanges notices and its wait is set
   build_turns : (old : Running) (turns : List Turn) (new : Running)
       (led : BuildTurnsLead old turns new) (early late : Programs) → IsThere tree weights k first early old
       → BuildTurnsHappened tree weights k old turns new led early late → IsThere tree weights k first late new

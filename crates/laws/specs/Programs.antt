@@ -74,8 +74,8 @@ pub record HasStarted (tree : Tree) (weights : List ℕ) (old new : Programs) : 
   pub places : new.places ≡ slice_set old.places number (Runs state)
   pub offered : new.offered ≡ old.offered
 
--- Between two turns only a program's port changed: notices of failed builds came or left, it was
--- told how long to wait, or it handed what was queued to the system.
+-- Between two turns only a program's port changed: notices of failed builds came or left, its wait
+-- was set, or it handed what was queued to the system.
 pub record HasWaited (old new : Programs) : Type 0 where
   pub number : ℕ
   pub state : Running
@@ -129,7 +129,7 @@ pub record WasKilled (old new : Programs) : Type 0 where
   pub offered : new.offered ≡ old.offered
 
 -- All programs run over one tree and the same weights, and these things happened, one after the
--- other. Turns of programs that run at the same time stand in the order in which they end: what a
+-- other. Turns of programs that run at the same time are put in the order in which they end: what a
 -- turn offers to other nodes doesn't leave its port before that.
 pub data HaveRun (tree : Tree) (weights : List ℕ) (first : Programs) : Programs → Type 0 where
   nothing_yet : HaveRun tree weights first first
