@@ -33,13 +33,11 @@ WRITTEN = 2500
 # when there are fewer.
 WORDS_BEFORE, SENTENCES_BEFORE = 5347, 518
 MOST_WORDS, MOST_SENTENCES = 215, 36
-# Files with lines that are too long. To break them would have all crates above proved again, so that is done at their next change.
-TOO_WIDE = {"crates/laws/specs/BuildPrograms.antt", *(f"crates/scheduler/{it}" for it in (
-    "specs/CatchingUp.antt", "specs/Taking.antt", "specs/Wishing.antt", "src/desk/free.rt", "src/desk/noticing.rt", "src/lib.rt"))}
-# Files with definitions that are too long, likewise.
-TOO_LONG = {"crates/scheduler/specs/Keeping.antt", "crates/scheduler/specs/Tries.antt"}
+# Files with definitions that are too long. To split them would have all crates above proved again, so that is done at their next
+# change.
+TOO_LONG = {"crates/scheduler/specs/Keeping.antt"}
 # Lemmas that are public although no other crate cites them since crates were merged, likewise.
-NOT_CITED = {"seals": {"Lengths"}, "scheduler": {"Named"}}
+NOT_CITED = {"seals": {"Lengths"}}
 
 
 def manual(tally: Tally) -> None:
@@ -71,7 +69,7 @@ def width(tally: Tally) -> None:
     for path in sorted(glob.glob(f"{TOP}/crates/*/src/**/*.rt", recursive=True) + glob.glob(f"{TOP}/crates/*/specs/**/*.antt", recursive=True)):
         name = os.path.relpath(path, TOP)
         wide = [n for n, line in enumerate(lines_of(path), 1) if len(line) > WIDEST and not is_import(line)]
-        tally.add(name, f"lines {wide} have more than {WIDEST} columns" if wide and name not in TOO_WIDE else "")
+        tally.add(name, f"lines {wide} have more than {WIDEST} columns" if wide else "")
 
 
 def documents() -> List[str]:
@@ -127,10 +125,14 @@ def plain(tally: Tally) -> None:
 
 
 def definitions(path: str) -> Iterator[Tuple[int, int]]:
-    """The definitions of a file: the line at which it begins, and how many lines it has."""
+    """The definitions of a file, also those inside a module: the line at which it begins, and how many lines it has."""
     starts, lines = [], lines_of(path)
+    is_inside = False
     for n, line in enumerate(lines):
-        if re.match(r"(abbrev|unfoldable|pub|record|data|[a-z_]+ pub) ", line) and not is_import(line) and not line.startswith("pub mod"):
+        is_inside = line.startswith("module ") or is_inside and line[:1] in ("", " ")
+        text = line.removeprefix("  ") if is_inside else line
+        is_start = re.match(r"(abbrev|unfoldable|pub|record|data|module|[a-z_]+ pub) ", text)
+        if is_start and not is_import(line) and not line.startswith("pub mod"):
             starts.append(n)
     for start, end in zip(starts, starts[1:] + [len(lines)]):
         body = [line for line in lines[start:end] if line.strip() and not line.lstrip().startswith("--")]

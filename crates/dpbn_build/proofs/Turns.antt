@@ -1,5 +1,5 @@
 -- Turns, one after the other.
-use Rattle.std.proofs.Common.{◌≡◌, ◌++◌, ℕ, List, [], ◌∷◌, Option, refl, subst}
+use Rattle.std.proofs.Common.{◌≡◌, ◌≢◌, ◌++◌, ℕ, List, [], ◌∷◌, Option, refl, subst, sym}
 use Rattle.dpbn_build.specs.Turns.{HasExchanged, HaveTurned, IsAtEnd, IsTurn, Turn, TurnsLead, told_to}
 use Rattle.dpbn_node.specs.Runs.{IsTurn as IsTurnOf, SoFar, SoloState}
 use Rattle.faults.specs.Bytes.{Text}
@@ -16,6 +16,11 @@ pub record HaveLed {D P : Type 0} (is_kept : D → Type 0) (history : D → Hist
   pub turns : List Turn
   pub led : TurnsLead is_kept history failures_of given offered does vouches noticed hurried old
       turns new
+
+-- turns, and one more, are some
+some-append : (turns : List Turn) (turn : Turn) → (turns ++ turn ∷ []) ≢ []
+some-append [] turn = λ same. cc
+some-append (first ∷ turns) turn = λ same. cc
 
 module _ {D P : Type 0} (is_kept : D → Type 0) (history : D → History) (failures_of : D → ℕ)
     (given : P → Option (List Arrived)) (offered : P → Option (List Parcel))
@@ -65,8 +70,15 @@ module _ {D P : Type 0} (is_kept : D → Type 0) (history : D → History) (fail
           took,
     )
 
-    -- after them the node is at its end
-    pub at_end : (rest : Option ℕ) (old new : SoloState D P) → Have old new
-        → IsAtEnd rest new.node.node
-        → HaveTurned is_kept history failures_of given offered does vouches noticed hurried rest old new
-    at_end rest old new so ends = record { turns = so.turns; led = so.led; ends = ends }
+    -- after one more the node is at its end
+    pub at_end : (rest : Option ℕ) (old between new told : SoloState D P) → Have old between
+        → ((turn : Turn) × Is between turn new) → told ≡ new → IsAtEnd rest told.node.node
+        → HaveTurned is_kept history failures_of given offered does vouches noticed hurried rest
+        old told
+    at_end rest old between new told so (turn, is) same ends = record {
+      turns = so.turns ++ turn ∷ [];
+      some = some-append so.turns turn;
+      led = TurnsLead-append old between told so.turns turn so.led
+          (subst (λ s. Is between turn s) (sym same) is);
+      ends = ends;
+    }

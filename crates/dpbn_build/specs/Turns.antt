@@ -66,12 +66,13 @@ TurnsLead is_kept history failures_of given offered does vouches noticed hurried
 abbrev pub IsAtEnd : Option ℕ → NodeState → Type 0
 IsAtEnd rest n = (n.stopped ≡ true) ⊎ ((rest ≢ None) × (job_of_claim n.member ≡ None))
 
--- Turns led from one state to the other, and then the node is at its end.
+-- Turns led from one state to the other, one at least, and then the node is at its end.
 pub record HaveTurned {D P : Type 0} (is_kept : D → Type 0) (history : D → History)
     (failures_of : D → ℕ) (given : P → Option (List Arrived)) (offered : P → Option (List Parcel))
     (does : P → Call → P → Type 0) (vouches : P → Text → Type 0) (noticed : P → P → Type 0)
     (hurried : P → Hurry → P) (rest : Option ℕ) (old new : SoloState D P) : Type 0 where
   pub turns : List Turn
+  pub some : turns ≢ []
   pub led : TurnsLead is_kept history failures_of given offered does vouches noticed hurried old
       turns new
   pub ends : IsAtEnd rest new.node.node

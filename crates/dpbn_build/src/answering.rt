@@ -3,18 +3,18 @@ ghost use Rattle.std.specs.Prelude.{
   ◌≡◌,
   ◌<◌,
   ◌≤◌,
-  ℕ,
   IfErr,
   IfOk,
-  List,
-  Option,
   false,
   length,
+  true,
 };
 ghost use Rattle.dpbn_build.specs.Build.{
   IsBuildText,
+  IsDiskRefusal,
   IsLineAfter,
   IsLineWith,
+  IsNoted,
   LacksNotes,
   RefusesBuild,
   RefusesBuildOn,
@@ -22,7 +22,6 @@ ghost use Rattle.dpbn_build.specs.Build.{
   status_of,
 };
 ghost use Rattle.dpbn_node.specs.Runs.{AreGood, IsOfNode, IsOfNodeOn, RefusesOnLog, letters_of, run_at};
-ghost use Rattle.dpbn_node.specs.Starts.{IsStartRefusal};
 ghost use Rattle.stable_record.specs.RealFile.{file_agrees, file_history};
 
 use crate::ending::Rest;
@@ -42,7 +41,7 @@ use engine::{Counts, Units};
 use job_folder::Folder;
 use listing::Tree;
 use program_io::{Answer, Refusal, node_text, tree_of_file};
-use run_file::{LogFolder, LogFound, Start, StartFault, SupposedEmpty, SystemFolder, found_in};
+use run_file::{LogFolder, LogFound, Start, SupposedEmpty, SystemFolder, found_in};
 use scheduler::{Desk, Pace};
 use stable_record::{Disk, FileDisk, Identity};
 use std::alloc::{AllocError, Global};
@@ -108,9 +107,9 @@ fn build_on<F: LogFolder, E: Write>(
         (run_at tree.now weights.now place) me
         (λ before. IsLineAfter site.now.rest before me answer.text.items answer.status)) }
     ensures refused { IfErr result (RefusesBuildOn (F.had_mode folder.now)
-        (F.gave folder.now me) (run_at tree.now weights.now place) me) }
+        (F.gave folder.now me) (F.known folder.now me) (run_at tree.now weights.now place) me) }
 {
-    let telling = Telling::new(rt.alloc(), me, None, place.sealing.is_watched());
+    let is_watched = place.sealing.is_watched();
     let mut place = place;
     place.units = Some(Units::new(rt.alloc(), tree)?.len());
     let begun = begin(rt, tree, weights, folder, me, place)?;
@@ -118,6 +117,7 @@ fn build_on<F: LogFolder, E: Write>(
     let Start { disk, unwritten } = start;
     let mut disk = disk;
     let is_noted = has_notes(&mut disk, &identity_of(tree, weights, me))?;
+    let telling = Telling::new(rt.alloc(), me, None, is_watched);
     let office = office_of(rt, site, me, is_noted, telling)?;
     let start = Start { disk, unwritten };
     build_on_log(rt, start, port, office, tree, weights, site, me, err)
@@ -128,21 +128,20 @@ fn build_on<F: LogFolder, E: Write>(
 ///
 /// # Errors
 ///
-/// The log can't be read.
+/// The log can't be read, or memory ran out.
 pub fn has_notes(disk: &mut FileDisk, owner: &Identity) -> Result<bool, Refusal>
     ensures lacks { IfOk result (λ has. has ≡ false → LacksNotes owner.now disk.new) }
+    ensures noted { IfOk result (λ has. has ≡ true → IsNoted owner.now disk.new) }
     ensures kept { file_agrees disk.new → file_agrees disk.old }
     ensures same { file_agrees disk.new → file_history disk.new ≡ file_history disk.old }
-    ensures refused { IfErr result (λ r. (had_mode : ℕ → Type 0)
-        (gave : Option (List ℕ) → Type 0) (shown : _) (is_continued : _)
-        → IsStartRefusal had_mode gave owner.now shown is_continued r) }
+    ensures refused { IfErr result IsDiskRefusal }
 {
     match found_in(disk, owner) {
         Ok(LogFound::Noted) => Ok(true),
         Ok(LogFound::Absent) => Ok(false),
         Ok(LogFound::Blank) => Ok(false),
         Ok(LogFound::Fresh) => Ok(false),
-        Err(fault) => Err(Refusal::of(&StartFault::from(fault))),
+        Err(fault) => Err(Refusal::of(&fault)),
     }
 }
 
@@ -227,32 +226,52 @@ fn build_on_log<E: Write>(
         (λ before. IsLineAfter site.now.rest before me answer.text.items answer.status)) }
     ensures refused { IfErr result RefusesOnLog }
 {
-    let solo = solo_on_log(rt, start, port, tree, weights, site.dir, me)?;
-    match answer_after(rt, solo, office, site.rest, me, err) {
-        Ok(answer) => Ok(answer),
-        Err(_) => Err(Refusal::memory()),
-    }
+    let mut office = office;
+    run_on_log(rt, start, port, &mut office, tree, weights, site, me, err)
+}
+
+/// Opens the member's node on the log on which it starts, and runs it.
+fn run_on_log<E: Write>(
+    rt: &HostRuntime,
+    start: Start,
+    port: UdpPort<'_, HostRuntime>,
+    office: &mut Office<'_>,
+    tree: &Tree,
+    weights: &Weights,
+    site: &Site<'_>,
+    me: u8,
+    err: &mut E,
+) -> Result<Answer, Refusal>
+    requires { me < length weights.now }
+    ensures built { IfOk result (λ answer. IsOfNodeOn start.disk port.entry
+        tree.now weights.now me
+        (λ before. IsLineAfter site.now.rest before me answer.text.items answer.status)) }
+    ensures refused { IfErr result RefusesOnLog }
+{
+    let mut solo = solo_on_log(rt, start, port, tree, weights, site.dir, me)?;
+    answer_after(rt, &mut solo, office, site.rest, me, err)
 }
 
 /// Runs the node's turns, and returns its answer.
 fn answer_after<E: Write>(
     rt: &HostRuntime,
-    solo: Solo<'_, FileDisk, UdpPort<'_, HostRuntime>>,
-    office: Office<'_>,
+    solo: &mut Solo<'_, FileDisk, UdpPort<'_, HostRuntime>>,
+    office: &mut Office<'_>,
     rest: Option<u32>,
     me: u8,
     err: &mut E,
-) -> Result<Answer, AllocError>
-    ensures { IfOk result (λ answer.
-        IsLineAfter rest solo.entry me answer.text.items answer.status) }
+) -> Result<Answer, Refusal>
+    ensures answer { IfOk result (λ answer.
+        IsLineAfter rest solo.old me answer.text.items answer.status) }
+    ensures refused { IfErr result RefusesOnLog }
 {
-    let mut solo = solo;
-    let mut office = office;
-    let is_ended = run(rt, &mut solo, &mut office, rest, err);
-    if is_ended {
-        answer_of(rt.alloc(), &solo, me)
-    } else {
-        Err(AllocError)
+    let is_ended = run(rt, solo, office, rest, err);
+    if !is_ended {
+        return Err(Refusal::memory());
+    }
+    match answer_of(rt.alloc(), solo, me) {
+        Ok(answer) => Ok(answer),
+        Err(_) => Err(Refusal::memory()),
     }
 }
 

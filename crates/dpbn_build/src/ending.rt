@@ -156,7 +156,8 @@ pub(crate) fn is_at_end<D: Disk, P: Port, E: Write>(
     rest: Option<u32>,
     err: &mut E,
 ) -> bool
-    ensures { result ≡ true → IsAtEnd rest solo.now.node.node }
+    ensures ends { result ≡ true → IsAtEnd rest solo.now.node.node }
+    ensures down { solo.now.node.node.stopped ≡ true → result ≡ true }
 {
     if solo.node().is_stopped() {
         return true;

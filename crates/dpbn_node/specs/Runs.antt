@@ -102,8 +102,8 @@ pub record IsOfNodeOn (log : FileDisk) (port : UdpPort LibcRuntime) (tree : Tree
 -- ---- runs
 
 -- The run that a node belongs to: the tree, the members' weights and addresses, the key if there is
--- one, whether datagrams from any address are accepted if there is none, and whether a log must
--- already exist.
+-- one, and whether a log must already exist. Without a key it may accept datagrams from all
+-- addresses.
 pub record RunOf : Type 0 where
   pub tree : Tree
   pub weights : List ℕ

@@ -68,26 +68,6 @@ pub struct Place {
 }
 
 impl Place {
-    /// The place of a node that reads and sends notices, in a run with this number of units.
-    pub fn with_notices(self, units: u32) -> Place
-        ensures { result ≡ record self { units = Some units } }
-    {
-        let Place {
-            sealing,
-            addresses,
-            patience,
-            is_continued,
-            units: _,
-        } = self;
-        Place {
-            sealing,
-            addresses,
-            patience,
-            is_continued,
-            units: Some(units),
-        }
-    }
-
     /// Which datagrams the node's port accepts, in the run over the tree, among members with these
     /// weights.
     fn guard(&self, tree: &Tree, weights: &Weights) -> Guard

@@ -67,8 +67,8 @@ abbrev pub with_pressing : List ℕ → Option Posted → List ℕ
 with_pressing units None = units
 with_pressing units (Some p) = units ++ p.unit ∷ []
 
--- A fault is returned only if a build failed that was out and its mark couldn't be written. Then the
--- unit is among those whose marks couldn't be; if its mark was written, it isn't.
+-- A fault is returned only if a build failed that was out, and its mark couldn't be written. Then
+-- the unit is among those whose marks are unwritten. If the mark was written, the unit isn't.
 abbrev pub AreUnwritten : Desk → Option Posted → Option WorkFault → Desk → Type 0
 AreUnwritten old None fault new = (fault ≡ None) × (new.unwritten ≡ old.unwritten)
 AreUnwritten old (Some p) fault new =

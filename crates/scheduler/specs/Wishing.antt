@@ -100,8 +100,8 @@ abbrev pub is_given_up : Desk → State → ℕ → Bool
 is_given_up d s u =
     not (is_for s.claim u) && nat_le d.pace.tries (tries_at (get nat_eq d.failed_elsewhere u))
 
--- Whether the unit may not be claimed: it is out, or it failed here, or it is given up, or no round is
--- left for it, or it is left to other members.
+-- Whether the unit may not be claimed: it is out, or it failed here, or it is given up, or no round
+-- is left for it, or it is left to other members.
 abbrev pub barred_at : Desk → State → Option Instant → Sought → Barred
 barred_at d s at sought u =
     has_unit d.out.items u
@@ -210,8 +210,8 @@ abbrev pub has_place : Desk → Bool
 has_place d =
     not d.holds_off && (not d.is_catching_up && nat_lt (length d.out.items) d.pace.jobs)
 
--- It is a claim anew for a unit that is out; or a new one, and the desk has a place for it. What was
--- the member's own before its start comes first.
+-- It is a claim anew for a unit that is out; or a new claim, and the desk has a place for it. What
+-- was the member's own before its start comes first.
 abbrev pub IsClaimWished : State → Desk → Instant → Wish → Type 0
 IsClaimWished s d now wish =
     ((u : ℕ) × IsClaimedAnew s d u × (wish ≡ Claim (name_at s u) (above_at d s u)))

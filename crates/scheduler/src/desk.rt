@@ -219,7 +219,7 @@ impl<'f> Desk<'f> {
                 && (!self.is_hit(member) || next.is_none())
     }
 
-    /// Keeps which units are queued, if this node has caught up just now and started late.
+    /// Keeps which units are queued, if this node caught up in this step and started late.
     fn keep_early(&mut self, member: &Member<'_>, is_catching_up: bool) -> Result<(), Memory>
         ensures early { self.old.is_catching_up ≡ is_catching_up
             → self.new.early ≡ self.old.early }

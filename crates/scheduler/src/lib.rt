@@ -1,5 +1,5 @@
-//! What a node that builds with others should try next: which jobs are out, which builds failed here
-//! and elsewhere, what it claims or asks for, and when.
+//! What a node that builds with others should try next: which jobs are out, which builds failed
+//! here and elsewhere, what it claims or asks for, and when.
 #![tactic(auto)]
 
 mod desk;

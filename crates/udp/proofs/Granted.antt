@@ -13,12 +13,23 @@ module _ {C : Type 0} (old : UdpPort C) (granted : Told) where
 
   -- it is the same port
   same_port : (after : UdpPort C) → IsSamePort then after → IsSamePort old after
-  same_port after same = record { setup = same.setup; heard = same.heard; sent = same.sent }
+  same_port after same = record {
+    setup = same.setup;
+    heard = same.heard;
+    sent = same.sent;
+    noticed = same.noticed;
+    listing = same.listing;
+  }
 
   -- what a call does to it
   done_before : (call : Call) (after : UdpPort C) → DoesOverUdp then call after → DoesOverUdp old call after
-  done_before (Received answer) after done = record { same = same_port after done.same; left = done.left }
-  done_before (Sent parcel answer) after done = record { same = same_port after done.same; handed = done.handed; taken = done.taken }
+  done_before (Received answer) after done = record { same = same_port after done.same; notices = done.notices; left = done.left }
+  done_before (Sent parcel answer) after done = record {
+    same = same_port after done.same;
+    notices = done.notices;
+    handed = done.handed;
+    taken = done.taken;
+  }
 
   pub does_as_before : (new : UdpPort C) → new ≡ then → DoesAsBefore DoesOverUdp old new
   does_as_before new is = λ call after.

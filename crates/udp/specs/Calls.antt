@@ -33,8 +33,8 @@ setup_of p = record {
   front = p.front;
 }
 
--- Nothing has happened to the port yet: nothing came, waits, was handed to the system or offered,
--- and a receive is patient.
+-- Nothing has happened to the port yet: nothing came, waits, was handed to the system, granted or
+-- offered, and a receive is patient.
 pub record IsEmpty {C : Type 0} (port : UdpPort C) : Type 0 where
   pub came : port.inbox.came ≡ []
   pub waiting : port.inbox.waiting ≡ []
@@ -42,6 +42,7 @@ pub record IsEmpty {C : Type 0} (port : UdpPort C) : Type 0 where
   pub notices : port.notices.waiting ≡ []
   pub leaving : port.leaving.waiting.items ≡ []
   pub handed : port.handed.all ≡ []
+  pub granted : port.granted.all ≡ []
   pub sends : port.sends ≡ 0
   pub failures : port.failures ≡ 0
   pub hurry : port.hurry ≡ Patient

@@ -64,12 +64,13 @@ IsOfNotice key (Some listing) text =
     (notice : Notice) × (text ≡ came_as key (notice_text listing.digest notice))
 
 -- Nothing happened to the port but that notices were sent and taken: it is the same port, with the
--- same received datagrams, numbers and wait. What was queued still is, and behind it are texts of
--- notices. No notice was read.
+-- same received datagrams, grants, numbers and wait. What was queued still is, and behind it are
+-- texts of notices. No notice was read.
 pub record HasNotified {C : Type 0} (old new : UdpPort C) : Type 0 where
   pub same : IsSamePort old new
   pub inbox : new.inbox ≡ old.inbox
   pub handed : new.handed.all ≡ old.handed.all
+  pub granted : new.granted.all ≡ old.granted.all
   pub failures : new.failures ≡ old.failures
   pub sends : new.sends ≡ old.sends
   pub hurry : new.hurry ≡ old.hurry

@@ -90,8 +90,8 @@ impl Desk<'_> {
             || self.is_left(member, unit, at, sought)
     }
 
-    /// Whether nobody claims the unit any more, since its builds failed at as many members as it may
-    /// be tried at. The claim that is open goes on.
+    /// Whether nobody claims the unit any more, since its builds failed at as many members as it
+    /// may be tried at. The claim that is open goes on.
     fn is_given_up(&self, member: &Member<'_>, unit: u32) -> bool
         ensures { result ≡ is_given_up self.now member.now unit }
     {

@@ -31,8 +31,8 @@ impl Desk<'_> {
         add_member(&mut self.failed_elsewhere, unit, from, promised)
     }
 
-    /// The unit of the notice that is due, if any: of each build that failed here, at once, and then
-    /// again from time to time, since notices get lost and members start late.
+    /// The unit of the notice that is due, if any. For each build that failed here one is due at
+    /// once, and then again from time to time, since notices get lost and members start late.
     pub fn next_notice(&mut self, now: Instant) -> Option<u32>
         ensures due { result ≡ due_notice self.old.notices self.old.failed now }
         ensures sent { AreSent self.old.notices self.old.failed now self.new.notices }

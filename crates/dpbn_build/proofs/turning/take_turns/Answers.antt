@@ -22,12 +22,6 @@ pub returns-then-is_at_end : goal.returns-then-is_at_end
 returns-then-is_at_end g c =
     λ ended. at_end g.D.Disk.is_kept g.D.Disk.history g.D.Disk.failures_of g.P.Port.given
     g.P.Port.offered g.P.Port.does g.P.Port.vouches g.P.BuildPort.noticed g.P.BuildPort.hurried
-    c.args.rest c.args.solo.now c.tell_turn.new.solo
-    (subst (λ s. HaveLed g.D.Disk.is_kept g.D.Disk.history g.D.Disk.failures_of g.P.Port.given
-    g.P.Port.offered g.P.Port.does g.P.Port.vouches g.P.BuildPort.noticed g.P.BuildPort.hurried
-    c.args.solo.now s)
-    (sym c.tell_turn.ensures)
-    (one_more g.D.Disk.is_kept g.D.Disk.history g.D.Disk.failures_of g.P.Port.given
-    g.P.Port.offered g.P.Port.does g.P.Port.vouches g.P.BuildPort.noticed g.P.BuildPort.hurried
-    c.args.solo.now c.loop.solo c.take_turn.new.solo c.loop.invariant c.take_turn.ensures))
-    (c.is_at_end.ensures c.if-is_at_end.true)
+    c.args.rest c.args.solo.now c.loop.solo c.take_turn.new.solo c.tell_turn.new.solo
+    c.loop.invariant c.take_turn.ensures c.tell_turn.ensures
+    (c.is_at_end.ensures.ends c.if-is_at_end.true)

@@ -37,6 +37,7 @@ returns-clause-notified g c =
       same = record { setup = refl; heard = refl; sent = c.make-made.ensures.key; noticed = refl; listing = refl };
       inbox = refl;
       handed = refl;
+      granted = refl;
       failures = refl;
       sends = refl;
       hurry = refl;

@@ -18,6 +18,7 @@ returns-clause-notified g c =
       };
       inbox = refl;
       handed = refl;
+      granted = refl;
       failures = refl;
       sends = refl;
       hurry = refl;
