@@ -1,5 +1,6 @@
 -- A program's start and its turns are among the things that programs do.
-use Rattle.std.proofs.Common.{◌≡◌, ◌∙◌, ℕ, Bool, List, [], ◌∷◌, Option, None, Some, slice_get, refl, ap, subst}
+use Rattle.std.proofs.Common.{◌≡◌, ◌∙◌, ℕ, List, [], ◌∷◌, Option, Some, refl, ap, subst}
+use Rattle.std.specs.declared.rt.LibcRuntime.{LibcRuntime}
 use Rattle.dpbn_build.specs.Build.{HasBuilt}
 use Rattle.dpbn_build.specs.Turns.{Turn}
 use Rattle.dpbn_node.specs.Node.{HasRun}
@@ -8,24 +9,20 @@ use Rattle.dpbn_node.specs.declared.starting.Begun.{Begun}
 use Rattle.faults.specs.Bytes.{Text}
 use Rattle.laws.proofs.BuildPrograms.{build_turns}
 use Rattle.laws.proofs.OneProgram.{IsThere, flushes, node_turns}
-use Rattle.laws.specs.BuildPrograms.{BuildTurnsHappened, BuildTurnsLead}
+use Rattle.laws.specs.BuildPrograms.{BuildTurnsLead}
 use Rattle.laws.specs.FromStart.{HasBuiltFromStart, HasRunFromStart, IsDown, IsUp, once_started}
 use Rattle.laws.specs.Programs as run
-use Rattle.laws.specs.Programs.{HaveRun, ProgramTurnsLead, Programs, Rests, Runs, TurnsHappened}
+use Rattle.laws.specs.Programs.{ProgramTurnsLead, Programs, Rests, Runs}
 use Rattle.listing.specs.Tree.{Tree}
 use Rattle.lone_node.specs.Handed.{AllBuilds, Handed}
-use Rattle.lone_node.specs.State.{SoloState}
 use Rattle.lone_node.specs.Turns.{Outcome}
 use Rattle.node.specs.State.{LoggedNode}
 use Rattle.one_list.proofs.uses.HostedNodes.{set_there}
 use Rattle.protocol.specs.Given.{Given}
-use Rattle.run_file.specs.Starts.{IsStarted}
 use Rattle.stable_record.specs.History.{History, seen}
 use Rattle.stable_record.specs.RealFile.{file_agrees, file_history}
 use Rattle.stable_record.specs.declared.file_disk.FileDisk.{FileDisk}
-use Rattle.stable_record.specs.declared.identity.Identity.{Identity}
 use Rattle.udp.specs.declared.udp_port.UdpPort.{UdpPort}
-use Rattle.std.specs.declared.rt.LibcRuntime.{LibcRuntime}
 
 -- ---- what is supposed of the file holds at the start
 
@@ -143,12 +140,19 @@ module _ (gave : Option Text → Type 0) (known : History) (of : RunOf) (me : �
     };
   }
 
--- the log was only looked at once more
+-- a start whose log has this disk now
+abbrev pub on_disk : Begun → FileDisk → Begun
+on_disk begun disk = record {
+  start = record { disk = disk; unwritten = begun.start.unwritten };
+  port = begun.port;
+}
+
+-- it is a start still, if its log was only looked at once more
 pub looked_again : (gave : Option Text → Type 0) (known : History) (of : RunOf) (me : ℕ)
     (begun : Begun) (disk : FileDisk) → (file_agrees disk → file_agrees begun.start.disk)
     → (file_agrees disk → file_history disk ≡ file_history begun.start.disk)
     → HasBegun gave known of me begun
-    → HasBegun gave known of me (record begun { start = record begun.start { disk = disk } })
+    → HasBegun gave known of me (on_disk begun disk)
 looked_again gave known of me begun disk kept same has = record {
   started = record {
     plan = has.started.plan;

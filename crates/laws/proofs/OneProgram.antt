@@ -25,6 +25,8 @@ then_runs tree weights first mid _ before (run.ended p q did s) =
     run.ended p q (then_runs tree weights first mid p before did) s
 then_runs tree weights first mid _ before (run.killed p q did s) =
     run.killed p q (then_runs tree weights first mid p before did) s
+then_runs tree weights first mid _ before (run.killed_in_start p q did s) =
+    run.killed_in_start p q (then_runs tree weights first mid p before did) s
 
 module _ (tree : Tree) (weights : List ℕ) (k : ℕ) (first : Programs) where
   -- the member's program runs in this state
@@ -85,7 +87,7 @@ module _ (tree : Tree) (weights : List ℕ) (k : ℕ) (first : Programs) where
   }
 
   -- the turns of `dpbn node`
-  node_turns : (handed : Handed) (old : Running) (answers : List Outcome) (new : Running)
+  pub node_turns : (handed : Handed) (old : Running) (answers : List Outcome) (new : Running)
       (led : ProgramTurnsLead handed old answers new) (early late : Programs) → IsThere early old
       → TurnsHappened tree weights k handed old answers new led early late → IsThere late new
   node_turns handed old [] new led early late there others =

@@ -5,21 +5,21 @@ use Rattle.dpbn_node.specs.Runs.{Running}
 use Rattle.faults.specs.Bytes.{Text}
 use Rattle.laws.proofs.ProgramRuns.{AreAt, Grows, HasHost, IsAt, are_at_after, are_at_first, are_hosts, at_up}
 use Rattle.laws.proofs.ProgramTurns.{goes_on, killed_in, offers_more}
-use Rattle.laws.proofs.Reopened.{identity_opened}
+use Rattle.laws.proofs.Reopened.{at_moment, identity_opened}
 use Rattle.laws.proofs.Running.{a_world}
 use Rattle.laws.specs.Hosts.{Down, Host, Hosts, IsLeft, Up, at_start}
 use Rattle.laws.specs.ProgramLaws.{ProgramsMakeAWorld}
 use Rattle.laws.specs.Programs as run
-use Rattle.laws.specs.Programs.{HasEnded, HasStarted, HasTurned, HasWaited, HaveRun, Programs, Rests, Runs, WasKilled, at_first}
+use Rattle.laws.specs.Programs.{HasEnded, HasStarted, HasTurned, HasWaited, HaveRun, Programs, Rests, Runs, WasKilled, WasKilledInStart, at_first}
 use Rattle.laws.specs.Run as hosts
 use Rattle.laws.specs.Run.{Run}
 use Rattle.listing.specs.Tree.{Tree}
 use Rattle.node.specs.OnLog.{identity, identity_of, texts_of}
 use Rattle.node.specs.State.{NodeState}
 use Rattle.one_list.proofs.uses.HostedNodes.{set_elsewhere, set_there}
-use Rattle.stable_record.specs.History.{seen}
+use Rattle.stable_record.specs.History.{History, seen}
 use Rattle.stable_record.specs.Log.{HasNotes}
-use Rattle.stable_record.specs.Opening.{Opens}
+use Rattle.stable_record.specs.Opening.{Opens, OpensAsLeft}
 use Rattle.stable_record.specs.RealFile.{file_history}
 use Rattle.stable_record.specs.declared.identity.Identity.{Identity}
 
@@ -170,6 +170,43 @@ module _ (tree : Tree) (weights : List ℕ) (first : Hosts) where
           opens in
           cc
 
+  -- ---- a program is killed while it starts
+
+  is_killed_in_start : (p q : Programs) (h : Hosts) → Run tree weights first h
+      → AreAt tree weights p h → (s : WasKilledInStart tree weights p q)
+      → HasHost tree weights p.offered h.hosts s.number (Rests s.file) → HasRunOn q
+  is_killed_in_start p q h so_far are s (y, there, (ts, is, opens)) = (
+    h,
+    so_far,
+    are_at_after tree weights p q h h s.number (Rests s.file) (Rests s.new_file) y are s.rests
+        s.places (are.offered ∙ sym s.offered) (same_offered p q s.offered) there (λ j other. refl)
+        (ts, is, opens_still),
+  )
+    where
+      n : NodeState
+      n = s.state.node.node
+
+      its : identity_of n.member ≡ identity tree weights s.number
+      its = identity_opened tree weights s.number n s.opens.opened.node.opened
+
+      before : History
+      before = file_history s.opens.log
+
+      -- the new file opens as one that a crash could leave at first, and that is the old file
+      as_left : OpensAsLeft (identity_of n.member) before s.new_file
+      as_left = at_moment (OpensAsLeft (identity_of n.member) before) before
+          (file_history s.state.node.log.disk) (s.opens.opened.node.any_moment s.opens.agrees)
+          s.left.rest s.left.moment s.left.since s.left.before s.left.behind s.new_file s.left.may
+
+      as_old : Opens (identity_of n.member) as_left.left (Ok ts)
+      as_old = subst (λ (f : Text). Opens (identity_of n.member) f (Ok ts))
+          (sym (s.on_disk as_left.left as_left.could_be))
+          (subst (λ (i : Identity). Opens i s.file (Ok ts)) (sym its) opens)
+
+      opens_still : Opens (identity tree weights s.number) s.new_file (Ok ts)
+      opens_still = subst (λ (i : Identity). Opens i s.new_file (Ok ts)) its
+          ((as_left.same (Ok ts)).0 as_old)
+
   -- ---- all of it
 
   pub runs_on : (early p : Programs) → HasRunOn early → HaveRun tree weights early p → HasRunOn p
@@ -188,6 +225,9 @@ module _ (tree : Tree) (weights : List ℕ) (first : Hosts) where
   runs_on early _ at (run.killed p q did e) =
       let b = runs_on early p at did in
       is_killed p q b.0 b.1 b.2 e ((b.2).each e.number (Runs e.before) e.runs)
+  runs_on early _ at (run.killed_in_start p q did s) =
+      let b = runs_on early p at did in
+      is_killed_in_start p q b.0 b.1 b.2 s ((b.2).each s.number (Rests s.file) s.rests)
 
 pub programs_make_a_world : ProgramsMakeAWorld
 programs_make_a_world division weights p made did =

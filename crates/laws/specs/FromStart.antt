@@ -26,13 +26,13 @@ once_started p k state = record {
   offered = p.offered;
 }
 
--- In a run of programs the member's program runs, in this state, and this was offered.
+-- In a run of programs the member's program runs, in this state, and these texts were offered.
 pub record IsUp (tree : Tree) (weights : List ℕ) (first : Programs) (k : ℕ) (state : Running)
-    (offered : List Text) : Type 0 where
+    (texts : List Text) : Type 0 where
   pub programs : Programs
   pub did : HaveRun tree weights first programs
   pub runs : slice_get programs.places k ≡ Some (Runs state)
-  pub offered : programs.offered ≡ offered
+  pub offered : programs.offered ≡ texts
 
 -- `dpbn node` started in the one state, and took this number of turns to the other. Its start and
 -- these turns are among the things that programs do, under three premises:
