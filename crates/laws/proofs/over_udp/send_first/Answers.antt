@@ -52,3 +52,10 @@ returns-in-Some g c =
           (same_way port _ c.grant.ensures.same c.me.result d.0 way))
           c.send.ensures.way,
     )
+
+pub returns : goal.returns
+returns g c = (
+  ap (λ (sends : List (ℕ × Text)). slice_get sends 0) (sym c.in_ok-out.ensures.taken.tells.sends)
+      ∙ sym c.in-None.ensures,
+  refl,
+)
