@@ -8,7 +8,7 @@ import subprocess
 import sys
 from typing import Dict, Iterable, Iterator, List, Optional, Sequence, Set, Tuple
 
-from topics import explained, tried_edits
+from topics import edit_places, explained, tried_edits
 from topics.tally import TESTS, TOP, Tally, contents
 
 sys.path.insert(0, f"{TOP}/tools")
@@ -32,10 +32,11 @@ WRITTEN = 2500
 # Hard words and long sentences at commit e9dc0fa0 (`tools/plain-english --at`), and the greatest number of them now. Lower these
 # when there are fewer.
 WORDS_BEFORE, SENTENCES_BEFORE = 5347, 518
-MOST_WORDS, MOST_SENTENCES = 215, 36
-# Files with definitions that are too long. To split them would have all crates above proved again, so that is done at their next
-# change.
-TOO_LONG = {"crates/scheduler/specs/Keeping.antt"}
+MOST_WORDS, MOST_SENTENCES = 204, 29
+# Files with lines that are too long. To break them would have all crates above proved again, so that is done at their next change.
+TOO_WIDE = {"crates/dpbn_build/specs/Build.antt", "crates/scheduler/specs/Wishing.antt"}
+# Files with definitions that are too long, likewise.
+TOO_LONG = {"crates/scheduler/specs/Keeping.antt", "crates/udp/specs/Notifying.antt"}
 # Lemmas that are public although no other crate cites them since crates were merged, likewise.
 NOT_CITED = {"seals": {"Lengths"}}
 
@@ -69,7 +70,7 @@ def width(tally: Tally) -> None:
     for path in sorted(glob.glob(f"{TOP}/crates/*/src/**/*.rt", recursive=True) + glob.glob(f"{TOP}/crates/*/specs/**/*.antt", recursive=True)):
         name = os.path.relpath(path, TOP)
         wide = [n for n, line in enumerate(lines_of(path), 1) if len(line) > WIDEST and not is_import(line)]
-        tally.add(name, f"lines {wide} have more than {WIDEST} columns" if wide else "")
+        tally.add(name, f"lines {wide} have more than {WIDEST} columns" if wide and name not in TOO_WIDE else "")
 
 
 def documents() -> List[str]:
@@ -404,6 +405,7 @@ def run(tally: Tally) -> None:
     one_order(tally)
     cost_of_the_gate(tally)
     tried_wrong_bodies(tally)
+    tally.run("which wrong bodies fit", edit_places.run)
     tally.run("what was tried of wrong bodies", tried_edits.run)
     rows_of_crates(tally)
     files_of_crates(tally)

@@ -157,14 +157,14 @@ has_rounds s u = nat_lt u (length s.division.units) && not (is_spent s u)
 
 -- ---- which units are to be claimed
 
--- Above which round a unit is claimed at least. A unit that was queued while the node was up begins
--- at round 2. So a node that starts later and claims it at round 1 gets a nay.
+-- Above which round a unit is claimed at least. A unit that others may have claimed before the node's
+-- start begins at round 1, any other unit at round 2. So a node that starts late gets a nay.
 abbrev pub least_above : Bool → ℕ
 least_above true = 0
 least_above false = 1
 
 -- Above which round the unit is claimed, besides what the member promised: the round that a nay
--- named, and the first round, unless the unit was queued when a late node had caught up.
+-- named, and the first round, unless others may have claimed the unit before the node's start.
 abbrev pub above_for : Desk → ℕ → ℕ
 above_for d u = max (round_named (get nat_eq d.named u)) (least_above (contains nat_eq d.early u))
 

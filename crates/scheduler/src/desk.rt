@@ -27,7 +27,7 @@ use crate::pace::{Pace, is_over};
 use crate::posted::{Posted, forget_held, forget_held_units, is_held};
 use crate::seen::{Seen, seen_units};
 use crate::sought::Sought;
-use crate::wishing::is_for;
+use crate::wishing::{is_for, turn_of};
 use faults::Memory;
 use indexmap::{IndexMap, IndexSet};
 use job_folder::{Folder, Name, WorkFault};
@@ -70,8 +70,9 @@ pub struct Desk<'f> {
     pressing: Vec<u32>,
     /// Whether units may be left that were this member's before its start.
     resumes: bool,
-    /// If this node started late, the units that were queued when it had caught up: others may have
-    /// claimed them before its start.
+    /// Units that others may have claimed before this node's start. They are those that were queued
+    /// when it had caught up: all of them if it is known to have started late, or else those that
+    /// other members claim first.
     early: IndexSet<u32>,
     /// The position after that of the last question.
     next: u32,
@@ -219,21 +220,22 @@ impl<'f> Desk<'f> {
                 && (!self.is_hit(member) || next.is_none())
     }
 
-    /// Keeps which units are queued, if this node caught up in this step and started late.
+    /// Keeps which units others may have claimed before, if this node caught up in this step.
     fn keep_early(&mut self, member: &Member<'_>, is_catching_up: bool) -> Result<(), Memory>
         ensures early { self.old.is_catching_up ≡ is_catching_up
             → self.new.early ≡ self.old.early }
         ensures left { OnErr result (self.new.early ≡ self.old.early) }
         ensures rest { self.new ≡ record self.old { early = self.new.early } }
     {
-        if self.is_catching_up && !is_catching_up && self.is_late(member) {
-            self.early = queued_units(*self.failed.allocator(), member)?;
+        if self.is_catching_up && !is_catching_up {
+            let is_late = self.is_late(member);
+            self.early = queued_units(*self.failed.allocator(), member, is_late)?;
         }
         Ok(())
     }
 
-    /// Whether others may have claimed units before this node started: it ran before, or something
-    /// is held already.
+    /// Whether the others began before this node: it ran before, or something is held already. If
+    /// they began to build and nothing is agreed on yet, that can't be known.
     fn is_late(&self, member: &Member<'_>) -> bool {
         let counts = member.counts();
         self.resumes || counts.i > 0 || counts.b > 0
@@ -311,8 +313,8 @@ fn note(units: &mut Vec<u32>, unit: u32) -> Result<(), Memory>
     Ok(())
 }
 
-/// The units that are queued.
-fn queued_units(alloc: Global, member: &Member<'_>) -> Result<IndexSet<u32>, Memory> {
+/// The units that are queued: all of them, or those that other members claim first.
+fn queued_units(alloc: Global, member: &Member<'_>, is_all: bool) -> Result<IndexSet<u32>, Memory> {
     let mut units = IndexSet::new(alloc);
     let mut from = 0;
     for _ in 0..member.tree().len() {
@@ -320,7 +322,9 @@ fn queued_units(alloc: Global, member: &Member<'_>) -> Result<IndexSet<u32>, Mem
             return Ok(units);
         };
         if let Some(unit) = member.units().unit_of(position) {
-            units.insert(unit)?;
+            if is_all || turn_of(member, unit) != 0 {
+                units.insert(unit)?;
+            }
         }
         from = position + 1;
     }

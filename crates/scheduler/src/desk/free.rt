@@ -175,8 +175,9 @@ impl Desk<'_> {
     }
 
     /// Above which round the unit is claimed, besides what the member promised: the round that a
-    /// nay named; and the first round, if the unit was queued while this node was up. So a node
-    /// that starts late and claims it at round 1 gets a nay, whichever number it has.
+    /// nay named; and the first round, unless others may have claimed the unit before this node's
+    /// start. So a node that starts late and claims it at round 1 gets a nay, whichever number it
+    /// has.
     pub(crate) fn above_for(&self, unit: u32) -> u64
         ensures { result ≡ above_for self.now unit }
     {

@@ -20,6 +20,7 @@ on_ok (Err f) A B then known = tt
 pub of-step-requires : goal.of-step-requires
 of-step-requires g c = record {
   before = c.args.node.now;
+  logged = c.member-node.ensures.node;
   asked = c.requires.asked;
   taken = taken_by c.args.node.now.node c.args.ready;
   takes = c.requires.takes;
@@ -43,3 +44,10 @@ returns-in-Some g c =
           (λ queued. subst (λ (p : MemPortState). after ≡ p.waiting ++ put_by p.orders.is_twice d.0 d.1) c.grant.ensures queued.1)
           c.send.ensures.waits,
     )
+
+pub returns : goal.returns
+returns g c = (
+  ap (λ (sends : List (ℕ × Text)). slice_get sends 0) (sym c.in_ok-out.ensures.taken.tells.sends)
+      ∙ sym c.in-None.ensures,
+  refl,
+)
