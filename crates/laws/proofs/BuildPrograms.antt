@@ -3,7 +3,7 @@ use Rattle.std.proofs.Common.{◌≡◌, ◌∙◌, ℕ, zero, suc, List, [], �
 use Rattle.dpbn_build.specs.Build.{HasBuilt}
 use Rattle.dpbn_build.specs.Turns.{NoticesLead, Turn, told_to}
 use Rattle.dpbn_node.specs.Runs.{Running}
-use Rattle.laws.proofs.ProgramWorlds.{IsThere, flushes, others_go, port_changes, takes, with_port}
+use Rattle.laws.proofs.OneProgram.{IsThere, flushes, others_go, port_changes, takes, with_port}
 use Rattle.laws.specs.BuildPrograms.{BuildTurnsAreOfPrograms, BuildTurnsHappened, BuildTurnsLead, ExchangesAreNotices, HasBuiltAmong, hurried_port}
 use Rattle.laws.specs.Programs.{Programs, Runs}
 use Rattle.listing.specs.Tree.{Tree}
@@ -21,8 +21,8 @@ set_twice (z ∷ zs) zero x y = refl
 set_twice (z ∷ zs) (suc k) x y = ap (λ l. z ∷ l) (set_twice zs k x y)
 
 module _ (tree : Tree) (weights : List ℕ) (k : ℕ) (first : Programs) where
-  -- the turns of `dpbn build`, before each of which its port exchanges notices and is told how long to wait
-  build_turns : (old : Running) (turns : List Turn) (new : Running)
+  -- the turns of `dpbn build`, before each of which its port exchanges notices and its wait is set
+  pub build_turns : (old : Running) (turns : List Turn) (new : Running)
       (led : BuildTurnsLead old turns new) (early late : Programs) → IsThere tree weights k first early old
       → BuildTurnsHappened tree weights k old turns new led early late → IsThere tree weights k first late new
   build_turns old [] new led early late there others =

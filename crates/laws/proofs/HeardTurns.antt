@@ -50,7 +50,7 @@ texts_from : (k : ℕ) (sends : List (ℕ × Text))
 texts_from k [] = refl
 texts_from k (s ∷ sends) = ap (λ l. s.1 ∷ l) (texts_from k sends)
 
--- what stands among the first is one of these
+-- what is among the first is one of these
 among : (xs more : List Parcel) (place : ℕ) (x : Parcel) → place < length xs
     → slice_get (xs ++ more) place ≡ Some x → Contains (texts_of xs) x.text
 among [] more place x below at = absurd (omega (arith, below))

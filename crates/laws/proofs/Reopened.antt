@@ -52,7 +52,7 @@ one_moment old rest moment since before behind = by since behind
     ))
 
 -- what holds all along holds of what a crash at any moment leaves
-at_moment : (P : Text → Type 0) (old new : History) → AllAlong P old new
+pub at_moment : (P : Text → Type 0) (old new : History) → AllAlong P old new
     → (rest moment since : History) → new ≡ rest ++ moment → moment ≡ since ++ old
     → Leaves P moment
 at_moment P old _ (at_first leaves) rest moment since before behind =

@@ -11,7 +11,7 @@ use Rattle.udp.specs.Notifying.{HasNotified}
 use Rattle.udp.specs.declared.patience.Hurry.{Hurry}
 use Rattle.udp.specs.declared.udp_port.UdpPort.{UdpPort}
 
--- the port, told how long to wait
+-- the port with this wait
 abbrev pub hurried_port : UdpPort LibcRuntime → Hurry → UdpPort LibcRuntime
 hurried_port port hurry = record port { hurry = hurry }
 

@@ -1,4 +1,4 @@
--- What a turn of crate `solo` does to its host.
+-- What a turn of crate `lone_node` does to its host.
 use Rattle.std.specs.Prelude.{◌≡◌, ◌⊎◌, true, List, Err}
 use Rattle.turn_rules.specs.declared.fault.TurnFault.{TurnFault}
 use Rattle.turn_rules.specs.declared.fault.TurnFault.TheVariants.{Memory, Node, Down, NotSent, NotFresh}

@@ -5,6 +5,7 @@
 #![tactic(auto)]
 
 mod catching_up;
+mod from_start;
 mod heard;
 mod on_hosts;
 mod one_world;
@@ -15,6 +16,7 @@ mod reopening;
 mod turns;
 
 pub use crate::catching_up::what_is_missing_is_queued;
+pub use crate::from_start::{build_from_start, node_from_start};
 pub use crate::heard::turn_if_heard;
 pub use crate::on_hosts::{
     stopped_nodes_stay, turns_are_of_a_run, turns_leave_logs, vouched_turns_are_of_a_run,

@@ -26,7 +26,8 @@ pub fn stopped_nodes_stay<D: Disk, P: Port>()
 {}
 
 /// Law: a crash at any moment of such a turn leaves a log that opens with the notes from before, or
-/// with these and that of the step. `turn_then_open` has this of `Solo::turn` by a call.
+/// with these and that of the step. `turn_then_open` has this of `Solo::turn_with` by a
+/// call.
 pub fn turns_leave_logs<D: Disk, P: Port>()
     ensures { TurnsLeaveLogs D.Disk P.Port }
 {}

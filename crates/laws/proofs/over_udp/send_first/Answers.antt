@@ -18,6 +18,13 @@ on_ok : (answer : Result (Unit {0}) PortFault) (A B : Type 0) → (A → B) → 
 on_ok (Ok u) A B then known = then known
 on_ok (Err f) A B then known = tt
 
+-- what the port grants changes no way
+same_way : {C : Type 0} (old new : UdpPort C) → new ≡ record old { granted = new.granted }
+    → (from to : ℕ) → HasWay new.seats.items new.addresses.items from to
+    → HasWay old.seats.items old.addresses.items from to
+same_way {C} old new same from to way =
+    subst (λ (p : UdpPort C). HasWay p.seats.items p.addresses.items from to) same way
+
 pub of-step-requires : goal.of-step-requires
 of-step-requires g c = record {
   before = c.args.node.now;
@@ -43,6 +50,13 @@ returns-in-Some g c =
       ap (λ (sends : List (ℕ × Text)). slice_get sends 0) (sym c.in_ok-out.ensures.taken.tells.sends) ∙ sym c.in-Some.ensures,
       on_ok c.send.result _ (HasWay port.seats.items port.addresses.items c.finish.new.self.node.member.me d.0)
           (λ way. subst (λ (from : ℕ). HasWay port.seats.items port.addresses.items from d.0) c.me.ensures
-          (subst (λ (p : UdpPort g.C). HasWay p.seats.items p.addresses.items c.me.result d.0) c.grant.ensures.same way))
+          (same_way port _ c.grant.ensures.same c.me.result d.0 way))
           c.send.ensures.way,
     )
+
+pub returns : goal.returns
+returns g c = (
+  ap (λ (sends : List (ℕ × Text)). slice_get sends 0) (sym c.in_ok-out.ensures.taken.tells.sends)
+      ∙ sym c.in-None.ensures,
+  refl,
+)
