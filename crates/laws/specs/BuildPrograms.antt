@@ -17,10 +17,7 @@ hurried_port port hurry = record port { hurry = hurry }
 
 -- Turns of `dpbn build`, one after the other, as its contract has them.
 abbrev pub BuildTurnsLead : Running → List Turn → Running → Type 0
-BuildTurnsLead =
-    TurnsLead file_disk
-    udp_port HasNotified
-    hurried_port
+BuildTurnsLead = TurnsLead file_disk udp_port HasNotified hurried_port
 
 -- These turns are what happened, with all that others did before, between and after them.
 abbrev pub BuildTurnsHappened : (tree : Tree) (weights : List ℕ) (k : ℕ) (old : Running)

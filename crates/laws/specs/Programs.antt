@@ -36,22 +36,16 @@ at_first weights = record { places = replicate (length weights) (Rests []); offe
 
 -- A turn of a program, as the contracts of `dpbn node` and `dpbn build` have it.
 abbrev pub IsProgramTurn : Handed → Running → Running → Outcome → Type 0
-IsProgramTurn =
-    IsTurn file_disk
-    udp_port
+IsProgramTurn = IsTurn file_disk udp_port
 
 -- If a program's turn took bytes, they were offered before.
 abbrev pub HeardOffered : (handed : Handed) (old new : Running) (answer : Outcome)
     → IsProgramTurn handed old new answer → List Text → Type 0
-HeardOffered =
-    TookOffered file_disk
-    udp_port
+HeardOffered = TookOffered file_disk udp_port
 
 -- Turns of `dpbn node`, one after the other, as its contract has them.
 abbrev pub ProgramTurnsLead : Handed → Running → List Outcome → Running → Type 0
-ProgramTurnsLead =
-    TurnsLead file_disk
-    udp_port
+ProgramTurnsLead = TurnsLead file_disk udp_port
 
 -- The member's node was opened on its own log, whose file was as it had been left. So far the file
 -- did what its history says.

@@ -11,9 +11,9 @@ use udp::UdpPort;
 
 /// Each member's program is `dpbn node` or `dpbn build`, over one tree and the same weights. It
 /// opens its own log's file, as it was left. It takes turns, and waits between them. Bytes that a
-/// turn takes were sent before by one of the nodes, in this run. A program ends, or is killed: while
-/// it starts, between turns or in one. Its file is left as a crash then may leave it. So far each
-/// file did what its history says.
+/// turn takes were sent before by one of the nodes, in this run. A program ends, or it is killed:
+/// while it starts, between turns or in one. Its file is left as a crash then may leave it. So far
+/// each file did what its history says.
 ///
 /// Whatever programs do in that way is a run of hosts, and so one world. So there is one list of
 /// packages at each moment.
