@@ -21,6 +21,7 @@ pub fn send_first<D: Disk>(
         (QueuesFirst (datagrams_to (taken_by node.old.node ready).answer.sends)
         port.old port.new) }
 {
+    let _node = node.member();
     let out = node.finish(ready)?;
     let step = LastStep::of(node, &out.sends);
     match out.sends.get(0) {

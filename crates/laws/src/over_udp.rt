@@ -23,6 +23,7 @@ pub fn send_first<C: Clock, D: Disk>(
         (SendsFirst node.new.node.member.me
         (datagrams_to (taken_by node.old.node ready).answer.sends) port.old port.new) }
 {
+    let _node = node.member();
     let out = node.finish(ready)?;
     let step = LastStep::of(node, &out.sends);
     match out.sends.get(0) {

@@ -20,6 +20,7 @@ on_ok (Err f) A B then known = tt
 pub of-step-requires : goal.of-step-requires
 of-step-requires g c = record {
   before = c.args.node.now;
+  logged = c.member-node.ensures.node;
   asked = c.requires.asked;
   taken = taken_by c.args.node.now.node c.args.ready;
   takes = c.requires.takes;

@@ -11,6 +11,7 @@ use Rattle.cluster_turns.proofs.taking.finish.Goals as goal
 pub offer-requires : goal.offer-requires
 offer-requires g c = record {
   before = c.args.node.now;
+  logged = c.member-node.ensures.node;
   asked = c.requires.present.asked;
   taken = taken_by c.args.node.now.node c.args.ready;
   takes = c.requires.present.takes;

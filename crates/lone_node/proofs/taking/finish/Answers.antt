@@ -7,6 +7,7 @@ use Rattle.lone_node.proofs.taking.finish.Goals as goal
 pub offer-requires : goal.offer-requires
 offer-requires g c = record {
   before = c.args.node.now;
+  logged = c.requires.logged;
   asked = c.requires.ready.asked;
   taken = taken_by c.args.node.now.node c.args.ready;
   takes = c.requires.ready.takes;
