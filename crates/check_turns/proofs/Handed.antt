@@ -1,30 +1,28 @@
 -- A port in memory that is passed from one node to another.
-use Rattle.std.proofs.Common.{◌≡◌, ◌==◌, ◌++◌, ◌∙◌, ℕ, Bool, true, false, List, [], ◌∷◌, Option, None, Some, Result, Ok, Err, length, if◌then◌else◌, refl, sym, ap, subst, eq-eqb}
+use Rattle.std.proofs.Common.{◌≡◌, ◌==◌, ◌++◌, ◌∙◌, ℕ, true, false, List, [], ◌∷◌, None, Some, Result, Ok, Err, length, if◌then◌else◌, refl, sym, ap, subst, eq-eqb}
 use Rattle.std.proofs.lemmas.Bool.{true≢false}
 use Rattle.std.specs.List.{range_with_len}
 use Rattle.std.specs.Prelude.{is_some, option_and_then, option_map}
 use Rattle.turn_rules.specs.Acts.{asked_by}
 use Rattle.turn_rules.specs.Answering.{answer_if, answer_of, answer_to}
 use Rattle.turn_rules.specs.Choice.{Chosen, IsFirstDone, IsGivenOr, all_made, comes_to, each_own, first_answer, has_answer, in_turn}
-use Rattle.turn_rules.specs.declared.act.Act.{Act}
 use Rattle.turn_rules.specs.declared.fault.TurnFault.{TurnFault}
 use Rattle.turn_rules.specs.declared.fault.TurnFault.TheVariants as refused
 use Rattle.faults.specs.Answers.{option_or}
 use Rattle.faults.specs.Bytes.{Text}
 use Rattle.node.specs.Calls.{HasTried}
-use Rattle.node.specs.State.{LoggedNode, NodeState}
+use Rattle.node.specs.State.{NodeState}
 use Rattle.node.specs.Step.{Asked, Comes}
 use Rattle.turn_rules.specs.Calls.{came_by}
 use Rattle.turn_rules.specs.Offered.{sends_of}
 use Rattle.datagram_ports.proofs.Calls.{WentThrough-append}
 use Rattle.datagram_ports.proofs.Waiting.{left_waiting}
-use Rattle.datagram_ports.specs.Calls.{Call, Received, WentThrough}
-use Rattle.datagram_ports.specs.InMemory.{DoesInMemory, IsLeftWaiting, MemPortState, first_of}
+use Rattle.datagram_ports.specs.Calls.{Received, WentThrough}
+use Rattle.datagram_ports.specs.InMemory.{DoesInMemory, MemPortState, first_of}
 use Rattle.datagram_ports.specs.Kept.{Arrived, Parcel}
 use Rattle.datagram_ports.specs.declared.fault.PortFault.{PortFault}
 use Rattle.protocol.specs.Given.{Given}
 use Rattle.protocol.specs.State.{State}
-use Rattle.protocol.specs.declared.input.Input.{Input}
 use Rattle.lone_node.proofs.Each.{none_does_so}
 use Rattle.lone_node.specs.Faults.{IsRefusedBy}
 use Rattle.lone_node.specs.Handed.{AllBuilds}
@@ -32,14 +30,18 @@ use Rattle.lone_node.specs.State.{SoloState, me_of, member_up, only}
 use Rattle.lone_node.specs.Turn.{IsChosen, received_by}
 use Rattle.lone_node.specs.Turns.{IsTurn, Outcome}
 use Rattle.check_turns.specs.Handed.{HearsTheFirst, IsAbout, PutsItsSends}
-use Rattle.stable_record.specs.History.{History}
+use Rattle.stable_record.specs.declared.disk.Disk.{Ghosts as Disk}
+use Rattle.datagram_ports.specs.declared.port.Port.{Ghosts as Port}
 
-module _ {D : Type 0} (is_kept : D → Type 0) (history : D → History) (failures_of : D → ℕ)
-    (given : MemPortState → Option (List Arrived)) (offered : MemPortState → Option (List Parcel))
-    (vouches : MemPortState → Text → Type 0) (builds : Given) (old new : SoloState D MemPortState)
+module _ {D : Type 0} (disk : Disk D) (port : Port MemPortState) (builds : Given)
+    (old new : SoloState D MemPortState)
   where
+    -- the port does what a port in memory does
+    abbrev in_memory : Port MemPortState
+    in_memory = record port { does = DoesInMemory }
+
     abbrev Turn : Outcome → Type 0
-    Turn = IsTurn is_kept history failures_of given offered DoesInMemory vouches (AllBuilds builds) old new
+    Turn = IsTurn disk in_memory (AllBuilds builds) old new
 
     abbrev n : NodeState
     n = old.node.node
@@ -103,7 +105,7 @@ module _ {D : Type 0} (is_kept : D → Type 0) (history : D → History) (failur
 
       -- so that is chosen
       is_that : (c : Chosen) (parcels : List Parcel)
-          → IsChosen given DoesInMemory vouches old new (AllBuilds builds) parcels c
+          → IsChosen in_memory old new (AllBuilds builds) parcels c
           → c ≡ Some (n.member.me, Comes text)
       is_that c parcels is = subst (λ g. IsGivenOr g c (later c))
           (ap (λ j. option_or j (comes_to (only n) (came_by is.answer))) no_job
@@ -115,7 +117,7 @@ module _ {D : Type 0} (is_kept : D → Type 0) (history : D → History) (failur
           is.choice
 
       asks_that : (asked : Asked) (parcels : List Parcel)
-          → IsChosen given DoesInMemory vouches old new (AllBuilds builds) parcels
+          → IsChosen in_memory old new (AllBuilds builds) parcels
           (Some (n.member.me, asked)) → asked ≡ Comes text
       asks_that asked parcels is =
           let known : ◌≡◌ {A = Chosen} (Some (n.member.me, asked)) (Some (n.member.me, Comes text))

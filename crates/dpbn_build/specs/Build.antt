@@ -2,9 +2,9 @@
 use Rattle.std.specs.Prelude.{◌≡◌, ◌<◌, ◌⊎◌, ◌==◌, ◌&&◌, ℕ, Bool, false, Option, None, Some, if◌then◌else◌, option_map}
 use Rattle.dpbn_build.specs.Turns.{HaveTurned}
 pub use Rattle.dpbn_node.specs.Node.{IsNodeText, RefusesNode}
-pub use Rattle.dpbn_node.specs.Runs.{AreGood, letters_of}
+pub use Rattle.dpbn_node.specs.Runs.{AreGood, file_disk, letters_of, udp_port}
 use Rattle.dpbn_node.specs.Given.{RefusesWeights}
-use Rattle.dpbn_node.specs.Runs.{HasBegun, HasFlushed, IsOfNode, IsRunOf, RefusesPlace, RefusesStart, RunOf, Running, port_vouches}
+use Rattle.dpbn_node.specs.Runs.{HasBegun, HasFlushed, IsOfNode, IsRunOf, RefusesPlace, RefusesStart, RunOf, Running}
 use Rattle.dpbn_node.specs.Keys.{AnyKeyFile}
 use Rattle.dpbn_node.specs.Starts.{AnyMode, AnyRunFile, owner}
 use Rattle.dpbn_node.specs.declared.starting.Begun.{Begun}
@@ -27,7 +27,6 @@ use Rattle.stable_record.specs.RealFile.{file_agrees, file_history}
 use Rattle.stable_record.specs.declared.disk_fault.DiskFault.{DiskFault}
 use Rattle.stable_record.specs.declared.file_disk.FileDisk.{FileDisk}
 use Rattle.stable_record.specs.declared.identity.Identity.{Identity}
-use Rattle.udp.specs.Calls.{DoesOverUdp}
 use Rattle.udp.specs.Notifying.{HasNotified}
 
 -- ---- what is printed
@@ -36,8 +35,7 @@ use Rattle.udp.specs.Notifying.{HasNotified}
 -- the system all datagrams that were queued to be sent. Between turns only notices came and left.
 pub record HasBuilt (rest : Option ℕ) (old new : Running) : Type 0 where
   pub last : Running
-  pub turned : HaveTurned file_agrees file_history (λ disk. disk.failures) (λ port. None)
-      (λ port. None) DoesOverUdp port_vouches HasNotified
+  pub turned : HaveTurned file_disk udp_port HasNotified
       (λ port hurry. record port { hurry = hurry }) rest old last
   pub flushed : HasFlushed last new
 

@@ -95,8 +95,7 @@ fn take_turns<D: Disk, P: Port + BuildPort, E: Write>(
     rest: Option<u32>,
     err: &mut E,
 ) -> bool
-    ensures { result ≡ true → HaveTurned D.is_kept D.history D.failures_of P.given P.offered
-        P.does P.vouches P.noticed P.hurried rest solo.old solo.new }
+    ensures { result ≡ true → HaveTurned D.Disk P.Port P.noticed P.hurried rest solo.old solo.new }
 {
     for _ in 0..u64::MAX {
         take_turn(rt, solo, office, err);
@@ -115,8 +114,7 @@ fn take_turn<D: Disk, P: Port + BuildPort, E: Write>(
     office: &mut Office<'_>,
     err: &mut E,
 )
-    ensures { (turn : Turn) × IsTurn D.is_kept D.history D.failures_of P.given P.offered P.does
-        P.vouches P.noticed P.hurried solo.old turn solo.new }
+    ensures { (turn : Turn) × IsTurn D.Disk P.Port P.noticed P.hurried solo.old turn solo.new }
 {
     exchange(solo, office, err);
     let Handed { made, wish, hurry } = office.hand_in(rt, solo, err);

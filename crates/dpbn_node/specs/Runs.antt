@@ -32,9 +32,12 @@ pub use Rattle.lone_node.specs.Turns.{IsTurn, Outcome}
 use Rattle.stable_record.specs.Crash.{AllAlong}
 use Rattle.stable_record.specs.History.{History, seen}
 use Rattle.stable_record.specs.Opening.{HasOneAnswer, Opens, OpensAsLeft}
-use Rattle.stable_record.specs.RealFile.{file_agrees, file_history}
+use Rattle.stable_record.specs.RealFile.{file_agrees, file_history, file_room}
+use Rattle.stable_record.specs.declared.disk.Disk.{Ghosts as Disk}
+use Rattle.datagram_ports.specs.Granted.{IsGranted}
+use Rattle.datagram_ports.specs.declared.port.Port.{Ghosts as Port}
 use Rattle.stable_record.specs.declared.file_disk.FileDisk.{FileDisk}
-use Rattle.udp.specs.Calls.{IsEmpty, setup_of}
+use Rattle.udp.specs.Calls.{DoesOverUdp, IsEmpty, setup_of}
 use Rattle.udp.specs.Hosts.{IsFirstBad, WriteHosts}
 use Rattle.udp.specs.Inbox.{is_vouched_for}
 use Rattle.udp.specs.Leaving.{texts_of as texts_that_wait}
@@ -56,6 +59,26 @@ Running = SoloState FileDisk (UdpPort LibcRuntime)
 -- the port vouches for this text: the bytes that encode it are among those received
 abbrev pub port_vouches : UdpPort LibcRuntime → Text → Type 0
 port_vouches port text = is_vouched_for port.inbox.key port.inbox.came text ≡ true
+
+-- what contracts see of the log's file
+abbrev pub file_disk : Disk FileDisk
+file_disk = record {
+  history = file_history;
+  is_kept = file_agrees;
+  failures_of = λ disk. disk.failures;
+  room = λ disk. file_room;
+}
+
+-- what contracts see of a port over UDP
+abbrev pub udp_port : Port (UdpPort LibcRuntime)
+udp_port = record {
+  given = λ port. None;
+  offered = λ port. None;
+  failures_of = λ port. port.failures;
+  does = DoesOverUdp;
+  vouches = port_vouches;
+  may_send = λ port text. IsGranted port.granted.all text;
+}
 
 -- The port handed all queued datagrams to the system, in order and each once, and nothing else. Its
 -- configuration and keys are unchanged, and nothing was received.

@@ -1,18 +1,17 @@
 -- What programs do is a run of hosts, and so one world.
-use Rattle.std.proofs.Common.{◌≡◌, ◌≢◌, ℕ, List, [], ◌∷◌, Some, Ok, slice_get, slice_set, refl, sym, ap, subst, ◌∙◌, inl, inr}
+use Rattle.std.proofs.Common.{◌≡◌, ◌≢◌, ℕ, List, [], ◌∷◌, Some, Ok, slice_get, slice_set, refl, sym, ap, subst, ◌∙◌, inr}
 use Rattle.std.specs.Prelude.{Contains}
 use Rattle.std.specs.declared.rt.LibcRuntime.{LibcRuntime}
-use Rattle.dpbn_node.specs.Node.{HasRun}
 use Rattle.dpbn_node.specs.Runs.{HasFlushed, Running}
 use Rattle.faults.specs.Bytes.{Text}
 use Rattle.laws.proofs.ProgramRuns.{AreAt, Grows, HasHost, IsAt, are_at_after, are_at_first, are_hosts, at_up}
-use Rattle.laws.proofs.ProgramTurns.{ChangesHost, goes_on, killed_in, offers_more}
+use Rattle.laws.proofs.ProgramTurns.{goes_on, killed_in, offers_more}
 use Rattle.laws.proofs.Reopened.{identity_opened}
 use Rattle.laws.proofs.Running.{a_world}
 use Rattle.laws.specs.Hosts.{Down, Host, Hosts, IsLeft, Up, at_start}
 use Rattle.laws.specs.ProgramLaws.{NodeTurnsAreOfPrograms, ProgramsMakeAWorld}
 use Rattle.laws.specs.Programs as run
-use Rattle.laws.specs.Programs.{HasEnded, HasStarted, HasTurned, HasWaited, HaveRun, IsTurnThere, OthersDid, Place, ProgramTurnsLead, Programs, Rests, Runs, TurnsHappened, WasKilled, at_first}
+use Rattle.laws.specs.Programs.{HasEnded, HasStarted, HasTurned, HasWaited, HaveRun, IsTurnThere, OthersDid, ProgramTurnsLead, Programs, Rests, Runs, TurnsHappened, WasKilled, at_first}
 use Rattle.laws.specs.Run as hosts
 use Rattle.laws.specs.Run.{Run}
 use Rattle.listing.specs.Tree.{Tree}

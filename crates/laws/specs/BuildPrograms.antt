@@ -1,15 +1,12 @@
 -- The turns of `dpbn build` among the things that programs do.
-use Rattle.std.specs.Prelude.{◌≡◌, ℕ, List, [], ◌∷◌, Option, None, Some, slice_get}
+use Rattle.std.specs.Prelude.{◌≡◌, ℕ, List, [], ◌∷◌, Option, Some, slice_get}
 use Rattle.std.specs.declared.rt.LibcRuntime.{LibcRuntime}
 use Rattle.dpbn_build.specs.Build.{HasBuilt}
 use Rattle.dpbn_build.specs.Turns.{HasExchanged, Turn, TurnsLead, told_to}
-use Rattle.dpbn_node.specs.Runs.{Running, port_vouches}
+use Rattle.dpbn_node.specs.Runs.{Running, file_disk, udp_port}
 use Rattle.laws.specs.Programs.{HaveRun, IsTurnThere, OthersDid, Programs, Runs}
 use Rattle.listing.specs.Tree.{Tree}
 use Rattle.lone_node.specs.Handed.{SoFar}
-use Rattle.stable_record.specs.RealFile.{file_agrees, file_history}
-use Rattle.stable_record.specs.declared.file_disk.FileDisk.{FileDisk}
-use Rattle.udp.specs.Calls.{DoesOverUdp}
 use Rattle.udp.specs.Notifying.{HasNotified}
 use Rattle.udp.specs.declared.patience.Hurry.{Hurry}
 use Rattle.udp.specs.declared.udp_port.UdpPort.{UdpPort}
@@ -21,8 +18,8 @@ hurried_port port hurry = record port { hurry = hurry }
 -- Turns of `dpbn build`, one after the other, as its contract has them.
 abbrev pub BuildTurnsLead : Running → List Turn → Running → Type 0
 BuildTurnsLead =
-    TurnsLead file_agrees file_history (λ (disk : FileDisk). disk.failures)
-    (λ (port : UdpPort LibcRuntime). None) (λ port. None) DoesOverUdp port_vouches HasNotified
+    TurnsLead file_disk
+    udp_port HasNotified
     hurried_port
 
 -- These turns are what happened, with all that others did before, between and after them.

@@ -1,8 +1,8 @@
 -- Programs on hosts of their own: what each `dpbn node` and `dpbn build` does, one thing after the
 -- other, and the files of their logs.
-use Rattle.std.specs.Prelude.{◌≡◌, ℕ, List, [], ◌∷◌, None, Some, length, replicate, slice_get, slice_set}
+use Rattle.std.specs.Prelude.{◌≡◌, ℕ, List, [], ◌∷◌, Some, length, replicate, slice_get, slice_set}
 use Rattle.std.specs.declared.rt.LibcRuntime.{LibcRuntime}
-use Rattle.dpbn_node.specs.Runs.{IsOpenedOn, Running, port_vouches}
+use Rattle.dpbn_node.specs.Runs.{IsOpenedOn, Running, file_disk, udp_port}
 use Rattle.faults.specs.Bytes.{Text}
 use Rattle.laws.specs.OnHosts.{HasOffered, TookOffered}
 use Rattle.laws.specs.Reopening.{MayBeLeft}
@@ -13,7 +13,6 @@ use Rattle.stable_record.specs.Crash.{MayLeave}
 use Rattle.stable_record.specs.History.{seen}
 use Rattle.stable_record.specs.RealFile.{file_agrees, file_history}
 use Rattle.stable_record.specs.declared.file_disk.FileDisk.{FileDisk}
-use Rattle.udp.specs.Calls.{DoesOverUdp}
 use Rattle.udp.specs.declared.udp_port.UdpPort.{UdpPort}
 
 -- ---- state
@@ -38,21 +37,21 @@ at_first weights = record { places = replicate (length weights) (Rests []); offe
 -- A turn of a program, as the contracts of `dpbn node` and `dpbn build` have it.
 abbrev pub IsProgramTurn : Handed → Running → Running → Outcome → Type 0
 IsProgramTurn =
-    IsTurn file_agrees file_history (λ (disk : FileDisk). disk.failures)
-    (λ (port : UdpPort LibcRuntime). None) (λ port. None) DoesOverUdp port_vouches
+    IsTurn file_disk
+    udp_port
 
 -- If a program's turn took bytes, they were offered before.
 abbrev pub HeardOffered : (handed : Handed) (old new : Running) (answer : Outcome)
     → IsProgramTurn handed old new answer → List Text → Type 0
 HeardOffered =
-    TookOffered file_agrees file_history (λ (disk : FileDisk). disk.failures)
-    (λ (port : UdpPort LibcRuntime). None) (λ port. None) DoesOverUdp port_vouches
+    TookOffered file_disk
+    udp_port
 
 -- Turns of `dpbn node`, one after the other, as its contract has them.
 abbrev pub ProgramTurnsLead : Handed → Running → List Outcome → Running → Type 0
 ProgramTurnsLead =
-    TurnsLead file_agrees file_history (λ (disk : FileDisk). disk.failures)
-    (λ (port : UdpPort LibcRuntime). None) (λ port. None) DoesOverUdp port_vouches
+    TurnsLead file_disk
+    udp_port
 
 -- The member's node was opened on its own log, whose file was as it had been left. So far the file
 -- did what its history says.

@@ -44,3 +44,10 @@ returns-in-Some g c =
           (λ queued. subst (λ (p : MemPortState). after ≡ p.waiting ++ put_by p.orders.is_twice d.0 d.1) c.grant.ensures queued.1)
           c.send.ensures.waits,
     )
+
+pub returns : goal.returns
+returns g c = (
+  ap (λ (sends : List (ℕ × Text)). slice_get sends 0) (sym c.in_ok-out.ensures.taken.tells.sends)
+      ∙ sym c.in-None.ensures,
+  refl,
+)

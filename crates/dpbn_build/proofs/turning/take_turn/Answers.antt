@@ -15,9 +15,7 @@ returns g c =
       answer = c.turn_with-answer.result;
     } in (
       turn,
-      rw seen (turned g.D.Disk.is_kept g.D.Disk.history g.D.Disk.failures_of g.P.Port.given
-          g.P.Port.offered g.P.Port.does g.P.Port.vouches g.P.BuildPort.noticed
-          g.P.BuildPort.hurried
+      rw seen (turned g.D.Disk g.P.Port g.P.BuildPort.noticed g.P.BuildPort.hurried
           c.args.solo.now c.exchange.new.solo _ turn c.exchange.ensures.same
           c.exchange.ensures.exchanged took),
     )
