@@ -8,7 +8,7 @@ import subprocess
 import sys
 from typing import Dict, Iterable, Iterator, List, Optional, Sequence, Set, Tuple
 
-from topics import edit_places, explained, tried_edits
+from topics import edit_places, explained, tried_edits, warrants
 from topics.tally import TESTS, TOP, Tally, contents
 
 sys.path.insert(0, f"{TOP}/tools")
@@ -222,21 +222,14 @@ def promises(tally: Tally) -> None:
     tally.add("docs/DESIGN.md, its promises", "" if len(rows) == text.count("; definition") else f"{len(rows)} of {text.count('; definition')} are read")
 
 
-def warrants_in(sources: Dict[str, str]) -> List[str]:
-    """The files with an implementation of `Warrant`, once for each."""
-    form = r"^impl\b[^;{]*\bWarrant\s+for\b"
-    return [path for path, source in sorted(sources.items()) for _ in re.findall(form, source, re.MULTILINE)]
-
-
 def one_warrant(tally: Tally) -> None:
     """Only a node's last step is a warrant. Whatever else were one could let any bytes be sent."""
-    paths = glob.glob(f"{TOP}/crates/*/src/**/*.rt", recursive=True)
-    found = warrants_in({os.path.relpath(path, TOP): contents(path).decode() for path in paths})
-    is_right = found == ["crates/turn_rules/src/last_step.rt"]
-    tally.add("crates, what lets bytes be sent", "" if is_right else f"{found} implement Warrant")
-    sample = {"a": "impl Warrant for A {", "b": "impl<'s, P: Port>\n    Warrant for B<'s, P> {", "c": "fn f<W: Warrant>() {\n    impl_x();"}
-    found = warrants_in(sample)
-    tally.add("tests/run documents, a sample of warrants", "" if found == ["a", "b"] else f"it finds {found}")
+    paths = filter(os.path.isfile, sorted(glob.glob(f"{TOP}/crates/*/src/**/*", recursive=True)))
+    counts = {os.path.relpath(path, TOP): warrants.warrants_in(contents(path).decode()) for path in paths}
+    found = {path: count for path, count in counts.items() if count}
+    is_right = found == {"crates/turn_rules/src/last_step.rt": 1}
+    tally.add("crates, what lets bytes be sent", "" if is_right else f"{found} may implement Warrant, and how often")
+    tally.add("tests/run documents, samples of warrants", warrants.samples_problem())
 
 
 def one_order(tally: Tally) -> None:
