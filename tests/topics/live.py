@@ -419,12 +419,12 @@ def jobs(tally):
 
 
 def broken(tally):
-    """Two ports are broken: each host tries them once, and comes to rest with status 3. Run again, the marks are still there; they are taken
-    away and the Makefiles mended meanwhile, and all is built."""
+    """Two ports are broken: each of three hosts tries them once, and comes to rest with status 3. Run again, the marks are still there;
+    they are taken away and the Makefiles mended meanwhile, and all is built."""
     name = "two broken ports"
     with laid(ports=12, seed=5, broken=2, least=0.05, most=0.2) as run:
         began = time.monotonic()
-        run.start("--rest", "20", "--takeover", "1")
+        run.start("--rest", "20", "--takeover", "1", "--tries", "3")
         statuses = run.ends()
         check(tally, f"{name}, how they end", statuses == [3] * 3, statuses, run.told())
         bad = run.set_broken(mended=False)
@@ -432,7 +432,7 @@ def broken(tally):
         once = all(host.lines().count(line) == 1 for host in run.hosts for line in failed)
         check(tally, f"{name}, each failed once at each host", once, run.told())
         run.end()
-        run.start("--takeover", "1")
+        run.start("--takeover", "1", "--tries", "3")
         again = until(lambda: all(failed <= set(host.lines()) for host in run.hosts))
         check(tally, f"{name}, marks that exist", again, run.told())
         run.set_broken(mended=True)
@@ -664,6 +664,9 @@ def one_folder(tally):
         first, second, _ = hosts
         for host in hosts:
             host.start_node("--takeover", "1")
+            # a node refuses a folder that has jobs, as long as its log has no notes: so the next one, with which there is a majority,
+            # starts once this one has opened it
+            until(lambda: os.path.exists(f"{host.run.folder}/logs/node-{host.me}.run"))
         first.hand_in("done", first.job("a/b"), b'{"a/b":[]}')
         is_first = until(lambda: all(held(host) == 1 for host in hosts))
         second.kill("node")
@@ -869,21 +872,138 @@ def failed_elsewhere(tally):
         check(tally, "what failed at one host", is_held and once, is_held, marks, last_of(*hosts))
 
 
-def failed_everywhere(tally, units=12, rest=20):
-    """Six hosts and a port that fails at each of them: all else is built, and all nodes come to rest soon after the last failure."""
+def fails_at_six(words, units=12, rest=20):
+    """Six hosts and a port that fails at each of them, until all nodes are at rest. Returns at which hosts it failed, how long after that
+    the nodes were at rest, their statuses, and how much they hold."""
     with several(plain(units), *(f"work-{me}" for me in range(6))) as hosts:
         for host in hosts:
-            host.start_node("--rest", str(rest))
+            host.start_node("--rest", str(rest), *words)
             start_building(host, hosts[0].folder, fails="a/p00")
-        is_over = until(lambda: all(host.node.poll() is not None for host in hosts))
-        ended, seen = time.time(), stamps(hosts[0].folder)
-        failed = [when for what, _, _, when in seen if what == "failed"]
-        took = ended - max(failed, default=0)
-        say(f"tests/run: a port that fails at six hosts: at rest {took:.1f} s after the last failure, with --rest {rest}")
-        statuses, most = [host.node.poll() for host in hosts], [held(host) for host in hosts]
-        right = is_over and statuses == [3] * 6 and most == [units - 1] * 6 and len(failed) == 6
-        check(tally, "what fails everywhere", right, statuses, most, len(failed))
-        check(tally, "what fails everywhere, how soon all are at rest", took < rest + 8, took, timed=True)
+        until(lambda: all(host.node.poll() is not None for host in hosts))
+        ended = time.time()
+        failed = [(host, when) for what, host, _, when in stamps(hosts[0].folder) if what == "failed"]
+        took = ended - max((when for _, when in failed), default=0)
+        return [host for host, _ in failed], took, [host.node.poll() for host in hosts], [held(host) for host in hosts]
+
+
+def failed_everywhere(tally, rest=20):
+    """What fails at two of six hosts isn't tried by the others. All else is built, and all nodes come to rest soon after that."""
+    failed, took, statuses, most = fails_at_six((), rest=rest)
+    say(f"tests/run: a port that fails at six hosts, and is tried at {len(failed)}: at rest {took:.1f} s after that, with --rest {rest}")
+    check(tally, "what fails everywhere", (statuses, most) == ([3] * 6, [11] * 6), statuses, most, failed)
+    check(tally, "what fails everywhere, at how many hosts", len(failed) == len(set(failed)) == 2, failed, timed=True)
+    check(tally, "what fails everywhere, how soon all are at rest", took < rest + 8, took, timed=True)
+
+
+def failed_at_four(tally):
+    """With `--tries 4` it is tried at four of them, and with `--tries 9` at each."""
+    for tries, count in ((4, 4), (9, 6)):
+        failed, _, statuses, most = fails_at_six(("--tries", str(tries)))
+        check(tally, f"what fails everywhere, --tries {tries}", (statuses, most) == ([3] * 6, [11] * 6), statuses, most, failed)
+        right = len(failed) == len(set(failed)) == count
+        check(tally, f"what fails everywhere, --tries {tries}, at how many hosts", right, failed, timed=True)
+
+
+def tried_again(tally):
+    """A unit that failed at as many hosts as may try it is built once its mark is removed at one of them."""
+    with several(plain(2), "work-0", "work-1", "work-2") as hosts:
+        for host in hosts:
+            host.start_node("--tries", "1")
+        until(lambda: any("a/p00" in host.jobs() for host in hosts))
+        first = next((host for host in hosts if "a/p00" in host.jobs()), hosts[0])
+        name = first.job("a/p00")
+        first.hand_in("failed", name, b"on purpose")
+        failed = until(lambda: b"dpbn: failed a/p00" in first.lines())
+        others = [host for host in hosts if host is not first]
+        answers_all(hosts, ("a/p00",), set())
+        time.sleep(3)
+        left = not any("a/p00" in host.jobs() for host in others)
+        check(tally, "a unit that failed where it may be tried", failed, last_of(*hosts))
+        check(tally, "the same, who else tries it", left, [sorted(host.jobs()) for host in hosts], timed=True)
+        os.unlink(f"{first.work}/failed/{name}")
+        answered = set()
+        is_held = until(lambda: answers_all(hosts, (), answered) or all(held(host) == 2 for host in hosts))
+        check(tally, "the same, once its mark is removed", is_held, [held(host) for host in hosts], last_of(*hosts))
+
+
+def unwritten_mark(tally):
+    """A mark that can't be written: the build counts as failed all the same. The node prints that once, goes on, and comes to rest."""
+    with lone(TWO, "--rest", "4") as host:
+        name = host.job("a/b")
+        # the name under which the node writes the mark, before it renames it
+        os.mkdir(f"{host.work}/failed/.{name}.0")
+        host.hand_in("done", name, b"none")
+        second = until(lambda: "a/c" in host.jobs(), 60)
+        if second:
+            host.hand_in("done", host.job("a/c"), b'{"a/c":[]}')
+        until(lambda: host.node.poll() is not None, 60)
+        lines, status = host.lines(), host.node.poll()
+        counts = [lines.count(line) for line in (b"dpbn: failed a/b", b"dpbn: fault 2")]
+        check(tally, "a mark that can't be written", (counts, status, held(host)) == ([1, 1], 3, 1), counts, status, last_of(host))
+
+
+def offered_claim(ear, path):
+    """Waits for an offer of a claim for this path, and returns the claim's bytes, or none."""
+    found = []
+
+    def is_offered():
+        with contextlib.suppress(BlockingIOError):
+            while True:
+                text = ear.recv(65_536)
+                if text[4] == OFFER and path in text:
+                    found.append(text[text.index(path) + len(path):][:9])
+        return found
+
+    ear.setblocking(False)
+    until(is_offered, 60)
+    return found[-1] if found else b""
+
+
+def answered_slowly(tally, rest=15, pause=9):
+    """A node with a claim for which another member promises or votes now and then isn't at rest meanwhile."""
+    name = "a claim that is answered slowly"
+    with lone("a/b.FULLPKGNAME=b-1\n", "--rest", str(rest), weights=(1,) * 5) as host, contextlib.ExitStack() as stack:
+        ears = [stack.enter_context(taken(port, address)) for address, port in host.places[1:]]
+        claim, tree = offered_claim(ears[0], b"a/b"), contents(host.log)[9:41]
+        for kind, rest_of_it in ((PROMISE, b"\0"), (VOTE, b"")):
+            for member in (1, 2):
+                time.sleep(pause)
+                ears[member - 1].sendto(sealed.front(b"DPB1", kind, member, tree, b"a/b") + claim + rest_of_it, host.places[0])
+            if kind == PROMISE:
+                posted = until(lambda: "a/b" in host.jobs() or host.node.poll() is not None) and "a/b" in host.jobs()
+                check(tally, f"{name}, by promises", posted, host.node.poll(), last_of(host))
+                came(ears)
+                host.hand_in("done", host.jobs().get("a/b", "none"), b'{"a/b":[]}')
+                until(lambda: PROPOSAL in came(ears)[0] or host.node.poll() is not None)
+        until(lambda: host.node.poll() is not None)
+        check(tally, f"{name}, by votes", (host.node.poll(), held(host)) == (0, 1), host.node.poll(), last_of(host))
+
+
+def own_first(tally):
+    """A node that is run again claims both units that it had claimed, although one of them was another member's at first, before one that
+    can be built since."""
+    listing = plain(6) + "a/p03.BUILD_DEPENDS=a/p02\na/p04.BUILD_DEPENDS=a/p03\n"
+    with several("".join(sorted(listing.splitlines(True))), "work-0", "work-1", "work-2") as hosts:
+        first, second, third = hosts
+        # the third only votes, so its unit, the second one, is left to the first host
+        os.makedirs(third.work)
+        put(f"{third.work}/stop", b"")
+        first.start_node("--jobs", "2")
+        for host in (second, third):
+            host.start_node()
+        own = {"a/p00", "a/p01"}
+        are_posted = until(lambda: set(first.jobs()) == own and "a/p02" in second.jobs())
+        first.kill("node")
+        second.hand_in("done", second.job("a/p02"), b'{"a/p02":[]}')
+        is_next = until(lambda: "a/p05" in second.jobs())
+        first.start_node("--jobs", "2")
+        until(lambda: held(first) == 1)
+        time.sleep(3)
+        check(tally, "a node that is run again, what it leaves for later", are_posted and is_next and set(first.jobs()) == own,
+              are_posted, is_next, [sorted(host.jobs()) for host in hosts])
+        answered = set()
+        is_held = until(lambda: answers_all(hosts, (), answered) or all(held(host) == 6 for host in hosts))
+        check(tally, "a node that is run again, what all hold", is_held, [held(host) for host in hosts], last_of(*hosts))
 
 
 def restarted_last(tally):
@@ -1027,6 +1147,29 @@ def late_claims(tally):
         check(tally, "a node that starts late, what there is to leave", posted, last_of(*hosts))
         # it asks, and claims what nobody says is taken within a slot of 250 ms
         check(tally, "a node that starts late, what it leaves to others", not found, found, last_of(*hosts), timed=True)
+
+
+def started_later(tally):
+    """Two hosts build units of their own, and nothing is held yet, when the third one starts, which has places and nothing of its own. It
+    leaves these units to them, although it never heard of their claims."""
+    # the third host comes first for the second unit and the fifth one
+    listing = plain(6) + "a/p01.BUILD_DEPENDS=a/p00\na/p04.BUILD_DEPENDS=a/p00\n"
+    with several("".join(sorted(listing.splitlines(True))), "work-0", "work-1", "work-2") as hosts:
+        early, last = hosts[:2], hosts[2]
+        for host in early:
+            host.start_node("--jobs", "4")
+        wanted = [["a/p00", "a/p03"], ["a/p02", "a/p05"]]
+        are_posted = until(lambda: [sorted(host.jobs()) for host in early] == wanted)
+        last.start_node("--jobs", "4")
+        is_up = until(lambda: any(map(LINE.fullmatch, last.lines())))
+        # it asks for a slot's time, and claims what isn't its own after two slots more
+        time.sleep(5)
+        posted = [sorted(host.jobs()) for host in hosts]
+        right = are_posted and is_up and posted == [*wanted, []]
+        check(tally, "a node that starts before anything is held", right, are_posted, is_up, posted, last_of(*hosts))
+        answered = set()
+        is_held = until(lambda: answers_all(hosts, (), answered) or all(held(host) == 6 for host in hosts))
+        check(tally, "a node that starts before anything is held, what all hold", is_held, [held(host) for host in hosts], last_of(*hosts))
 
 
 # ---- what is sent, and memory
@@ -1466,7 +1609,8 @@ def wrong_words():
     yield from ([], ["--help"], build, there, [*here, "--hosts", "1.2.3.4:5"], [*here, "more"], [*here, "--work", "work"])
     yield from ([*here, b"\xff"], [*here, "--rest"], [*here, "--single=yes"], [*here, "--continue", "--continue"])
     yield from ([*there, "--key", "x", "--unsealed"], [*here, "--key", "x", "--unsealed"])
-    for word, bad in (("--jobs", ("0", "65", "-1", "two", "")), ("--takeover", ("0", "1000001")), ("--rest", ("0", "1000001")),
+    for word, bad in (("--jobs", ("0", "65", "-1", "two", "")), ("--takeover", ("0", "1000001")),
+                      ("--tries", ("0", "10", "two")), ("--rest", ("0", "1000001")),
                       ("--progress", ("0", "1000001")), ("--patience", ("60001",)), ("--base", ("1023", "65527"))):
         yield from ([*(build if word == "--base" else here), word, it] for it in bad)
         yield [*here, word, "2000", word, "2000"]
@@ -1574,4 +1718,5 @@ def run(tally):
         tally.case(one)
     beside(tally, (answers, rests_behind_all_jobs, taken_away, killed_while_it_builds, one_folder, overtaken, left_to_another, other_runs,
                    beside_nodes, quiet, unanswered, voted_by_nobody, no_majority, long_run, manual_page, readme, lost_disks,
-                   a_host_that_cannot_build, away, late_claims, own_again, unattended, touched_lock, restarted_last))
+                   a_host_that_cannot_build, away, late_claims, own_again, unattended, touched_lock, restarted_last, failed_at_four,
+                   tried_again, unwritten_mark, answered_slowly, own_first, started_later))

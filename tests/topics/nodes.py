@@ -1,6 +1,7 @@
 """dpbn as it is built: stored runs of clusters, nodes that hear each other, stops and kills, devices that fail, noise, sockets,
 patience, words and what is refused."""
 import contextlib
+import fcntl
 import functools
 import json
 import os
@@ -70,8 +71,9 @@ def lay_logs(folder):
 
 
 def logs_in(folder):
-    """The bytes of the logs there, by name."""
-    return {name: contents(f"{folder}/logs/{name}") for name in sorted(os.listdir(f"{folder}/logs"))}
+    """The bytes of the logs there, by name, and of the files next to them. A folder has none."""
+    names = sorted(os.listdir(f"{folder}/logs"))
+    return {name: contents(f"{folder}/logs/{name}") if os.path.isfile(f"{folder}/logs/{name}") else None for name in names}
 
 
 def put(path, text):
@@ -222,12 +224,14 @@ def faults(tally):
             tally.add("a socket that is taken", difference(answer(short, folder), refused(1204)))
 
 
+def no_files_left():
+    """What a process does before it is a cluster of three, so that no file is left for its sockets."""
+    resource.setrlimit(resource.RLIMIT_NOFILE, (7, 7))
+
+
 def cluster_faults(tally):
     """What `cluster` refuses before the first turn, in the order in which it is looked at; with no file left for a socket its sockets
     can't be made."""
-    def no_files_left():
-        resource.setrlimit(resource.RLIMIT_NOFILE, (7, 7))
-
     with tempfile.TemporaryDirectory() as folder:
         lay(folder)
         bad_files(folder)
@@ -270,13 +274,23 @@ def bad_words(tally):
             tally.add(f"the hosts {','.join(hosts)!r}", difference(got, refused(f"1206 at {place}")))
 
 
-def logs_stay(tally, folder, words, wanted):
-    """Words of a call that refuses a log: it leaves all logs as they are."""
+def stays(tally, folder, name, words, wanted, **more):
+    """A call that is refused leaves the logs and the files next to them as they are, and makes none."""
     before = logs_in(folder)
-    told = difference(answer(words, folder), refused(wanted))
+    told = difference(answer(words, folder, **more), refused(wanted))
     after = logs_in(folder)
-    changed = [it for it in before if after.get(it) != before[it]]
-    tally.add(f"dpbn {' '.join(words)}, and its logs", told or (f"{changed} changed" if changed else ""))
+    changed = sorted(it for it in {*before, *after} if it not in before or it not in after or before[it] != after[it])
+    tally.add(name, told or (f"{changed} changed" if changed else ""))
+
+
+def logs_stay(tally, folder, words, wanted):
+    """A call that refuses logs, named by its words, leaves them as they are."""
+    stays(tally, folder, f"dpbn {' '.join(words)}, and its logs", words, wanted)
+
+
+def build_words(base):
+    """The words of member 0 of three, which builds."""
+    return ["build", "--listing", "listing", "--dir", "logs", "--members", "3", "--work", "work", "--base", str(base), "--me", "0"]
 
 
 def refused_logs(tally):
@@ -288,17 +302,93 @@ def refused_logs(tally):
         node = ["node", *three, "--base", str(free_ports(4)), "--me"]
         tally.add("a cluster", difference(answer(["cluster", *three], folder), (ALL, b"", 0)))
         logs_stay(tally, folder, ["cluster", *three], 1203)
-        for words in (["cluster", *three], [*node, "0"], [*node, "2"]):
+        build = build_words(free_ports(4))
+        # a cluster of four would make it
+        put(f"{folder}/logs/node-3.log", b"")
+        for words in (["cluster", *three], [*node, "0"], [*node, "2"], build):
             logs_stay(tally, folder, [*words, "--weights", "1,1,2"], 1005)
             logs_stay(tally, folder, ["4" if it == "3" else it for it in words], 1005)
             logs_stay(tally, folder, ["other" if it == "listing" else it for it in words], 1005)
         whole = logs_in(folder)
         for spoiled, wanted in ((b"this isn't a log", 1004), (whole["node-0.log"][:-1], 1004), (whole["node-2.log"], 1005)):
             put(f"{folder}/logs/node-0.log", spoiled)
-            logs_stay(tally, folder, ["cluster", *three], wanted)
-            logs_stay(tally, folder, [*node, "0"], wanted)
+            for words in (["cluster", *three], [*node, "0"], build):
+                logs_stay(tally, folder, words, wanted)
         put(f"{folder}/logs/node-0.log", whole["node-0.log"][:43] + b"\0")
         logs_stay(tally, folder, ["cluster", *three], 1203)
+
+
+def bad_work(folder):
+    """Work folders that are refused: others may write in one, and in a part of another, and the third has an answer."""
+    for name in ("shared", "open-done/done", "used/done"):
+        os.makedirs(f"{folder}/{name}")
+    os.chmod(f"{folder}/shared", 0o775)
+    os.chmod(f"{folder}/open-done/done", 0o775)
+    put(f"{folder}/used/done/{'0' * 64}", b"")
+
+
+def refused_starts(tally):
+    """What a start leaves that is refused after it looked at its log: with notes, with and without a run file; with a torn note; with a log
+    that has no notes."""
+    with tempfile.TemporaryDirectory() as folder:
+        lay(folder)
+        bad_work(folder)
+        base = free_ports(3)
+        node = ["node", *SHARED, "--members", "3", "--me", "0", "--turns", "0", "--base", str(base)]
+        tally.add("a log without notes", difference(answer(node, folder), (node_line(0, q=1), b"", 0)))
+        refused_start(tally, folder, "without notes", base)
+        work = ["used" if it == "work" else it for it in build_words(base)]
+        stays(tally, folder, "a work folder of another run, and the log", work, 1209)
+        lay_logs(folder)
+        tally.add("logs with notes", difference(answer(["cluster", *SHARED, "--members", "3", "--turns", "200"], folder), (ALL, b"", 0)))
+        refused_start(tally, folder, "without a run file", base)
+        stays(tally, folder, "a cluster that gets no sockets, and its logs", ["cluster", *SHARED, "--members", "3", "--turns", "0"], 1204,
+              preexec_fn=no_files_left)
+        unwritten_run(tally, folder, base)
+        tally.add("a run file for it", difference(answer(node, folder), (node_line(0, i=1), b"", 0)))
+        refused_start(tally, folder, "with notes", base)
+        put(f"{folder}/logs/node-0.log", logs_in(folder)["node-0.log"] + b"\0\0\0\x0etorn")
+        refused_start(tally, folder, "with a torn note", base)
+        tally.add("the log after all refusals", difference(answer(node, folder), (node_line(0, i=1), b"", 0)))
+
+
+@contextlib.contextmanager
+def locked(folder):
+    """The log of member 0, which this process has locked."""
+    with open(f"{folder}/logs/node-0.log", "rb") as log:
+        fcntl.flock(log, fcntl.LOCK_EX)
+        yield
+
+
+def refused_start(tally, folder, state, base):
+    """Starts of member 0 by `node` and by `build`. Its port is taken, its address isn't here, or another process has locked its log. Others
+    may write in the folder of the log. Its work folder is refused."""
+    node = ["node", *SHARED, "--members", "3", "--me", "0", "--turns", "0", "--base", str(base)]
+    away = ",".join(f"192.0.2.{member + 1}:{base}" for member in range(3))
+    for name, words in (("node", node), ("build", build_words(base))):
+        with taken(base):
+            stays(tally, folder, f"{name} whose port is taken, and its log {state}", words, 1204)
+        there = [*(it for it in words if it not in ("--base", str(base))), "--hosts", away, "--unsealed"]
+        stays(tally, folder, f"{name} at an address that isn't here, and its log {state}", there, 1204)
+        with locked(folder):
+            stays(tally, folder, f"{name} whose log is locked, {state}", words, 2)
+        os.chmod(f"{folder}/logs", 0o775)
+        stays(tally, folder, f"{name} in a folder in which others may write, and its log {state}", words, 1210)
+        os.chmod(f"{folder}/logs", 0o755)
+    with locked(folder):
+        stays(tally, folder, f"a cluster whose log is locked, {state}", ["cluster", *SHARED, "--members", "1", "--turns", "0"], 2)
+    for work, fault in (("listing", 2), ("shared", 1210), ("open-done", 1210)):
+        words = [work if it == "work" else it for it in build_words(base)]
+        stays(tally, folder, f"build whose work folder is {work}, and its log {state}", words, fault)
+
+
+def unwritten_run(tally, folder, base):
+    """Starts of member 0 whose run file can't be written, since a folder has the name of the new file."""
+    os.mkdir(f"{folder}/logs/node-0.run.new")
+    node = ["node", *SHARED, "--members", "3", "--me", "0", "--turns", "0", "--base", str(base)]
+    for name, words in (("node", node), ("build", build_words(base))):
+        stays(tally, folder, f"{name} whose run file can't be written, and its log", words, 2)
+    os.rmdir(f"{folder}/logs/node-0.run.new")
 
 
 def alone(tally):
@@ -426,6 +516,53 @@ def failing_device(tally, shim, folder):
         tally.add(f"the device that had {room} bytes", difference(answer(words, folder), held))
 
 
+def calls_of(shim, folder, words, fail=""):
+    """The answer of a call, and the system's calls that change files or bring them to the disk, of which this one fails."""
+    put(f"{folder}/calls", b"")
+    shimmed = {"LD_PRELOAD": f"{shim}/calls.so", "CALLS": f"{folder}/calls", "FAIL": fail, "RENAMES": "1"}
+    got = answer(words, folder, env={**os.environ, **shimmed})
+    return got, contents(f"{folder}/calls").decode().split("\n")[:-1]
+
+
+# the calls that bring a log's folder and what the log has to the disk; that make a log; that bring a run file and its name there
+FOUND, NAMED = ["sync folder", "sync"], ["sync", "rename", "sync folder"]
+MAKING = ["sync", "write 0 1", "sync", "write 1 43", "sync", "write 0 1", "sync"]
+
+
+def calls_of_starts(tally, shim, folder):
+    """A start brings the log's name to the disk before it writes there, and a run file before it has its name, and then the name. The
+    text of the run file is whole when it is brought there."""
+    words = ["node", *SHARED, "--members", "1", "--me", "0", "--base", str(free_ports(1)), "--turns"]
+    log, run = (f"{folder}/logs/node-0.{it}" for it in ("log", "run"))
+    queued, held = (node_line(0, q=1), b"", 0), (node_line(0, i=1), b"", 0)
+
+    def called_in(name, calls, wanted=queued):
+        got, seen_calls = calls_of(shim, folder, [*words, "0"])
+        problem = difference(got, wanted)
+        tally.add(f"the calls of a start {name}", problem or ("" if seen_calls == calls else f"{seen_calls}, not {calls}"))
+
+    lay_logs(folder)
+    called_in("on no log", FOUND + MAKING + NAMED)
+    text = contents(run)
+    called_in("on a log without notes", FOUND)
+    os.remove(run)
+    called_in("on a log without notes and no run file", FOUND + NAMED)
+    os.remove(run)
+    put(log, b"")
+    called_in("on an empty log", FOUND + MAKING + NAMED)
+    tally.add("a node that takes turns", difference(answer([*words, "20"], folder), held))
+    called_in("on a log with notes", FOUND, held)
+    os.remove(run)
+    called_in("on a log with notes and no run file", FOUND + NAMED, held)
+    for number, call in enumerate(NAMED[:2], len(FOUND) + 1):
+        os.remove(run)
+        got, seen_calls = calls_of(shim, folder, [*words, "0"], str(number))
+        told = difference(got, refused(2)) or ("" if seen_calls[-1] == f"{call} failed" else f"{seen_calls}")
+        whole = not os.path.exists(run) and contents(f"{run}.new") == text
+        tally.add(f"a run file whose {call} fails", told or ("" if whole else f"{logs_in(folder)}"))
+        tally.add(f"a start after the {call} that failed", difference(answer([*words, "0"], folder), held))
+
+
 def failing(tally):
     """Devices that fail: in memory, if there is a folder for it, since what stays on them isn't asked here."""
     with tempfile.TemporaryDirectory() as shim, tempfile.TemporaryDirectory(dir=MEMORY) as folder:
@@ -433,6 +570,7 @@ def failing(tally):
             lay(folder)
             failing_devices(tally, shim, folder)
             failing_device(tally, shim, folder)
+            calls_of_starts(tally, shim, folder)
 
 
 def with_room(room):
@@ -928,7 +1066,7 @@ def beside(tally, several, at_a_time=None):
 
 def run(tally):
     beside(tally, [functools.partial(case, kind="nodes", name=name) for name in sorted(os.listdir(f"{TESTS}/nodes"))], 4)
-    for one in (no_calls, helps, faults, cluster_faults, bad_words, refused_logs, alone, cluster, exact_turns, progress, failing, sockets, kills):
+    for one in (no_calls, helps, faults, cluster_faults, bad_words, refused_logs, refused_starts, alone, cluster, exact_turns, progress, failing, sockets, kills):
         tally.case(one)
     beside(tally, (hosts, refused_sends, stops, noise, patience, manual_page))
     tally.case(second_start)

@@ -15,7 +15,7 @@ import time
 
 from topics import nodes, processor
 from topics.nodes import (LIMIT, LISTING, MEMORY, NODES, SHARED, agreed, answer, free_ports, grown, lay, lay_logs, logs_in, node_line, put,
-                          refused, taken)
+                          refused, stays, taken)
 from topics.tally import Lines, contents, difference, seen as shown
 
 # how many datagrams are sent, in all, that are forged; and that are noise or genuine ones with a bit flipped
@@ -224,16 +224,18 @@ def keys(tally):
         tally.add("a listing that is a FIFO", difference(answer(node_words(0, 0, keyed(port), listing), folder), refused(2)))
 
 
+def printed(tally):
+    """What a node that builds prints under a key: its line, and how many datagrams it dropped. For `node` other cases ask that."""
+    with tempfile.TemporaryDirectory() as folder:
+        lay_run(folder, LISTING + "a/b.IGNORE=broken\n")
+        words = ["build", "--listing", "listing", "--dir", "logs", "--work", "work", "--members", "1", "--me", "0", "--key", "key"]
+        got = answer([*words, "--hosts", f"127.0.0.1:{free_ports(1)}", "--rest", "1", "--progress", "10"], folder)
+        line = b"node 0: I=0 B=0 Q=0 T=0 !=1"
+        more = [it for it in got[1].split(b"\n")[:-1] if it not in (line, b"dpbn: strangers: 0")]
+        tally.add("what build prints under a key", f"{more}, {got}" if more or got[::2] != (line + b"\n", 0) else "")
+
+
 # ---- logs and run files
-
-def stays(tally, folder, name, words, wanted):
-    """What is refused leaves all files of the folder as they are."""
-    before = logs_in(folder)
-    told = difference(answer(words, folder), refused(wanted))
-    after = logs_in(folder)
-    changed = [it for it in {*before, *after} if before.get(it) != after.get(it)]
-    tally.add(name, told or (f"{changed} changed" if changed else ""))
-
 
 def runs(tally):
     """Logs that are lost, swapped, emptied, copied back, and run files of other runs."""
@@ -289,6 +291,8 @@ def runs(tally):
         spoiled("fewer members", {}, ["node", *SHARED, *two], "1006 at 3")
         spoiled("another key", {}, node_words(0, 0, keyed(port, "second")), "1006 at 5")
         spoiled("no key", {}, node_words(0, 0, ["--hosts", where(port), "--unsealed"]), "1006 at 5")
+        with taken(port):
+            spoiled("an address that is taken", {}, first, 1204)
         spoiled("a cluster in the folder", {}, ["cluster", *SHARED, "--members", "3", "--turns", "0"], 1203)
         restored()
         put(f"{folder}/logs/node-0.log", log[:-1] + b"\0")
@@ -632,6 +636,6 @@ def faults_again(tally, count=50):
 
 
 def run(tally):
-    for one in (keys, runs, folders, unread, believed, forged, flipped, strangers_of_the_run, replayed, repeated, faults_again, beside_a_flood):
+    for one in (keys, printed, runs, folders, unread, believed, forged, flipped, strangers_of_the_run, replayed, repeated, faults_again, beside_a_flood):
         tally.case(one)
     tally.case(functools.partial(nodes.kills, rounds=20, seed=2, sealing=True))

@@ -168,7 +168,7 @@ def broken_off(error: Exception) -> str:
     return told + (f"\n    not built: `tools/prove {program[1]}`" if program else "")
 
 
-def contents(path):
+def contents(path: str) -> bytes:
     with open(path, "rb") as file:
         return file.read()
 

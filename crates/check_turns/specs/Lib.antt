@@ -1,3 +1,4 @@
+pub mod FirstSent
 pub mod Going
 pub mod Handed
 pub mod Heard

@@ -2,6 +2,7 @@
 //! proved from nothing but what the contracts of these calls say.
 #![tactic(auto)]
 
+mod first_sent;
 mod handing;
 mod heard;
 mod in_memory;
@@ -11,6 +12,7 @@ mod run;
 mod shown;
 mod two;
 
+pub use crate::first_sent::send_first;
 pub use crate::handing::hand_on;
 pub use crate::heard::hear_next;
 pub use crate::in_memory::{hear_what_was_offered, turn_in_memory};

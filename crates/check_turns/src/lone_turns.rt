@@ -19,9 +19,9 @@ pub fn two_turns<D: Disk, P: Port>(
     solo: &mut Solo<'_, D, P>,
     builds: &Packages,
 ) -> (Outcome, Outcome)
-    ensures led { TurnsLead D.is_kept D.history D.failures_of P.given P.offered P.does P.vouches
+    ensures led { TurnsLead D.Disk P.Port
         (AllBuilds builds.now) solo.old (result.0 ∷ result.1 ∷ []) solo.new }
-    ensures took { TookTwo P.offered solo.old solo.new result.0 result.1 }
+    ensures took { TookTwo P.Port solo.old solo.new result.0 result.1 }
 {
     let one = solo.turn(builds);
     let other = solo.turn(builds);

@@ -258,8 +258,9 @@ fn finish<D: Disk, P: Port>(
         (parcels_from number (datagrams_to (sends_in ready.step))) port.new) }
     ensures uncalled { OnErr result (port.new ≡ port.old) }
 {
+    let _node = node.member();
     let out = node.finish(ready)?;
-    offer(port, number, &out.sends);
+    offer(node, port, number, &out.sends);
     Ok(())
 }
 

@@ -24,6 +24,8 @@ pub record MemPortState : Type 0 where
   pub given : Option (List Arrived)
   -- what was offered, unless memory for recording it ran out
   pub offered : Option (List Parcel)
+  -- the bytes that were granted
+  pub granted : List Text
   pub failures : ℕ
 
 -- whether it is this number

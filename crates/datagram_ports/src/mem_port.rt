@@ -1,10 +1,11 @@
 //! A port in memory.
 ghost use Rattle.std.specs.Prelude.{◌≡◌, ◌++◌, ◌∷◌, [], IfErr, IfOk, None, OnErr, OnOk, Some, drop, false, length, map, option_map, true};
+ghost use Rattle.datagram_ports.specs.Granted.{IsGranted};
 ghost use Rattle.datagram_ports.specs.InMemory.{DoesInMemory, first_of, is_one, kept_if, lost_by, put_by};
 ghost use Rattle.datagram_ports.specs.Kept.{GoesOnBy, arrived, counted};
 ghost use Rattle.datagram_ports.specs.inside.Views.{given_view, sending_view, waiting_view};
 
-use crate::{Port, PortFault};
+use crate::{Port, PortFault, Told, Warrant};
 use faults::Memory;
 use std::alloc::Global;
 use std::collections::VecDeque;
@@ -39,6 +40,8 @@ pub struct MemPort {
     offered: Vec<Sending>,
     /// Whether `offered` is complete.
     has_offered: bool,
+    /// What was granted.
+    granted: Told,
     lost_to: Option<u8>,
     is_twice: bool,
     is_deaf: bool,
@@ -46,6 +49,7 @@ pub struct MemPort {
 }
 
 impl Model for MemPort {
+    ghost use Rattle.datagram_ports.specs.Granted.{IsGranted};
     ghost use Rattle.datagram_ports.specs.InMemory.{MemPortState};
 
     ghost Value = { MemPortState };
@@ -63,6 +67,7 @@ impl MemPort {
           waiting = [];
           given = Some [];
           offered = Some [];
+          granted = [];
           failures = 0;
         } }
     {
@@ -73,6 +78,7 @@ impl MemPort {
             has_given: true,
             offered: Vec::new(alloc),
             has_offered: true,
+            granted: Told::new(),
             lost_to: None,
             is_twice: false,
             is_deaf: false,
@@ -246,6 +252,8 @@ impl Port for MemPort {
 
     ghost does = { DoesInMemory };
 
+    ghost may_send = { λ p text. IsGranted p.granted text };
+
     fn receive(&mut self) -> Result<Option<(u8, Vec<u8>)>, PortFault>
         ensures given { GoesOnBy (arrived result ∷ []) self.old.given self.new.given }
         ensures offered { self.new.offered ≡ self.old.offered }
@@ -277,7 +285,17 @@ impl Port for MemPort {
         }
     }
 
+    fn grant<W: Warrant>(&mut self, warrant: &W, bytes: &[u8])
+        requires { W.covers warrant.now bytes.now }
+        ensures { self.new ≡ record self.old {
+          granted = self.old.granted ++ bytes.now ∷ [];
+        } }
+    {
+        self.granted.note(bytes);
+    }
+
     fn send(&mut self, from: u8, to: u8, bytes: &[u8]) -> Result<(), PortFault>
+        requires { IsGranted self.old.granted bytes.now }
         ensures given { self.new.given ≡ self.old.given }
         ensures offered { GoesOnBy (record { from = from; to = to; text = bytes.now } ∷ [])
             self.old.offered self.new.offered }

@@ -1,3 +1,4 @@
+mod Exchanged
 mod Logs
 mod Shown
 mod Told

@@ -15,7 +15,7 @@ module _ (me : ℕ) (n : NodeState) where
       → letters_of n ≡ (if b then None else Some (engine_of n.member))
   letters_if b e = ap (λ c. if c then None else Some (engine_of n.member)) e
 
-  -- what is told of it, and the status, say what it shows
+  -- the printed line and the status show its letters
   pub line_with : (o : Option Counts)
       → MatchOption o (n.stopped ≡ true)
       (λ counts. (n.stopped ≡ false) × AreCounts (engine_of n.member) counts)

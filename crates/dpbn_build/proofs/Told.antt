@@ -1,4 +1,4 @@
--- How many members weigh what is told.
+-- How many weights the arguments give.
 use Rattle.std.proofs.Common.{◌≡◌, ◌∙◌, ℕ, List, Option, None, Some, length, ap}
 use Rattle.std.proofs.lemmas.List.{length-replicate}
 use Rattle.dpbn_node.specs.Given.{AreTold}

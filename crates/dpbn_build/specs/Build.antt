@@ -2,11 +2,12 @@
 use Rattle.std.specs.Prelude.{◌≡◌, ◌<◌, ◌⊎◌, ◌==◌, ◌&&◌, ℕ, Bool, false, Option, None, Some, if◌then◌else◌, option_map}
 use Rattle.dpbn_build.specs.Turns.{HaveTurned}
 pub use Rattle.dpbn_node.specs.Node.{IsNodeText, RefusesNode}
-pub use Rattle.dpbn_node.specs.Runs.{AreGood, letters_of}
+pub use Rattle.dpbn_node.specs.Runs.{AreGood, file_disk, letters_of, udp_port}
 use Rattle.dpbn_node.specs.Given.{RefusesWeights}
-use Rattle.dpbn_node.specs.Runs.{HasFlushed, IsOfNode, IsRunOf, RefusesPlace, RefusesStart, RunOf, Running, port_vouches}
+use Rattle.dpbn_node.specs.Runs.{HasBegun, HasFlushed, IsOfNode, IsRunOf, RefusesPlace, RefusesStart, RunOf, Running}
 use Rattle.dpbn_node.specs.Keys.{AnyKeyFile}
-use Rattle.dpbn_node.specs.Starts.{AnyMode, AnyRunFile}
+use Rattle.dpbn_node.specs.Starts.{AnyMode, AnyRunFile, owner}
+use Rattle.dpbn_node.specs.declared.starting.Begun.{Begun}
 use Rattle.dpbn_cli.specs.declared.Peers.{Peers}
 use Rattle.dpbn_cli.specs.declared.Run.{Run}
 use Rattle.dpbn_cli.specs.declared.Site.{Site}
@@ -19,21 +20,22 @@ use Rattle.program_io.specs.Refusals.{IsSystemRefusal}
 use Rattle.program_io.specs.declared.refusal.Refusal.{Refusal}
 use Rattle.run_file.specs.Found.{IsFound}
 use Rattle.run_file.specs.Looking.{empty_past}
-use Rattle.run_file.specs.declared.judging.LogFound.TheVariants.{Blank, Fresh}
-use Rattle.stable_record.specs.History.{seen}
+use Rattle.run_file.specs.declared.judging.LogFound.TheVariants.{Blank, Fresh, Noted}
+use Rattle.stable_record.specs.DiskRefusals.{number_of}
+use Rattle.stable_record.specs.History.{History, seen}
 use Rattle.stable_record.specs.RealFile.{file_agrees, file_history}
+use Rattle.stable_record.specs.declared.disk_fault.DiskFault.{DiskFault}
 use Rattle.stable_record.specs.declared.file_disk.FileDisk.{FileDisk}
 use Rattle.stable_record.specs.declared.identity.Identity.{Identity}
-use Rattle.udp.specs.Calls.{DoesOverUdp}
+use Rattle.udp.specs.Notifying.{HasNotified}
 
 -- ---- what is printed
 
 -- Some turns led from one state of the node to another, in which it ends; and then the port handed
--- the system all datagrams that were queued to be sent.
+-- the system all datagrams that were queued to be sent. Between turns only notices came and left.
 pub record HasBuilt (rest : Option ℕ) (old new : Running) : Type 0 where
   pub last : Running
-  pub turned : HaveTurned file_agrees file_history (λ disk. disk.failures) (λ port. None)
-      (λ port. None) DoesOverUdp port_vouches
+  pub turned : HaveTurned file_disk udp_port HasNotified
       (λ port hurry. record port { hurry = hurry }) rest old last
   pub flushed : HasFlushed last new
 
@@ -79,6 +81,15 @@ abbrev pub LacksNotes : Identity → FileDisk → Type 0
 LacksNotes i log = file_agrees log
     → IsFound i (seen (file_history log)) Blank ⊎ IsFound i (seen (file_history log)) Fresh
 
+-- The owner's log has notes, or is no log: as long as its file does what its history says, no log
+-- is to be made of it, and it has another length than a log without notes.
+abbrev pub IsNoted : Identity → FileDisk → Type 0
+IsNoted i log = file_agrees log → IsFound i (seen (file_history log)) Noted
+
+-- the log can't be read, or memory ran out
+abbrev pub IsDiskRefusal : Refusal → Type 0
+IsDiskRefusal r = (f : DiskFault) × (r ≡ record { number = number_of f; place = None })
+
 -- the work folder has files of another run, and the node's log has no notes
 abbrev pub work_refusal : Refusal
 work_refusal = record { number = 1209; place = None }
@@ -93,10 +104,22 @@ abbrev pub RefusesWork : Bool → Refusal → Type 0
 RefusesWork has_notes r =
     (IsSystemRefusal r ⊎ (r ≡ shared_refusal)) ⊎ ((has_notes ≡ false) × (r ≡ work_refusal))
 
--- the refusals of the start in the run, and of the work folder
-abbrev pub RefusesBuildOn : RunOf → ℕ → Refusal → Type 0
-RefusesBuildOn of me r =
-    RefusesStart AnyMode AnyRunFile me of r ⊎ ((r ≡ work_refusal) ⊎ (r ≡ shared_refusal))
+-- A start in the run was made for the member, on a log without notes, in a folder in which a read
+-- of its run file gave this, and about whose log this is supposed.
+pub record HasBegunWithoutNotes (gave : Option Text → Type 0) (known : History) (of : RunOf) (me : ℕ)
+    : Type 0 where
+  pub begun : Begun
+  pub has_begun : HasBegun gave known of me begun
+  pub lacks : LacksNotes (owner of.tree of.weights me) begun.start.disk
+
+-- The refusals of the start in the run, and of the work folder. The folder of the log may have had
+-- these modes, and given these run files. That the work folder has files of another run is reported
+-- only of a start on a log without notes.
+abbrev pub RefusesBuildOn : (ℕ → Type 0) → (Option Text → Type 0) → History → RunOf → ℕ → Refusal
+    → Type 0
+RefusesBuildOn had_mode gave known of me r =
+    RefusesStart had_mode gave me of r
+    ⊎ (((r ≡ work_refusal) × HasBegunWithoutNotes gave known of me) ⊎ (r ≡ shared_refusal))
 
 -- the refusals before the first turn: of the listing, of the weights, of the key's file and the
 -- hosts, and of the start and the work folder in the run that the words name
@@ -105,4 +128,5 @@ RefusesBuild site me peers run r =
     RefusesListingFile site.is_single r
     ⊎ (RefusesWeights r
     ⊎ (RefusesPlace AnyKeyFile site.members peers run r
-    ⊎ ((of : RunOf) × IsTold site peers run of × RefusesBuildOn of me r)))
+    ⊎ ((of : RunOf) × IsTold site peers run of
+    × RefusesBuildOn AnyMode AnyRunFile empty_past.calls of me r)))

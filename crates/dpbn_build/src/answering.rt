@@ -1,9 +1,20 @@
 //! The command `dpbn build`.
-ghost use Rattle.std.specs.Prelude.{◌≡◌, ◌<◌, ◌≤◌, IfErr, IfOk, false, length};
+ghost use Rattle.std.specs.Prelude.{
+  ◌≡◌,
+  ◌<◌,
+  ◌≤◌,
+  IfErr,
+  IfOk,
+  false,
+  length,
+  true,
+};
 ghost use Rattle.dpbn_build.specs.Build.{
   IsBuildText,
+  IsDiskRefusal,
   IsLineAfter,
   IsLineWith,
+  IsNoted,
   LacksNotes,
   RefusesBuild,
   RefusesBuildOn,
@@ -11,8 +22,6 @@ ghost use Rattle.dpbn_build.specs.Build.{
   status_of,
 };
 ghost use Rattle.dpbn_node.specs.Runs.{AreGood, IsOfNode, IsOfNodeOn, RefusesOnLog, letters_of, run_at};
-ghost use Rattle.dpbn_node.specs.Starts.{AnyMode, AnyRunFile, IsStartRefusal};
-ghost use Rattle.run_file.specs.Looking.{empty_past};
 ghost use Rattle.stable_record.specs.RealFile.{file_agrees, file_history};
 
 use crate::ending::Rest;
@@ -28,11 +37,11 @@ use dpbn_node::{
     Begun, Place, Solo, SystemKeys, Telling, begin, identity_of, place_of_words, solo_on_log,
     weights_of_words,
 };
-use engine::Counts;
+use engine::{Counts, Units};
 use job_folder::Folder;
 use listing::Tree;
 use program_io::{Answer, Refusal, node_text, tree_of_file};
-use run_file::{LogFound, Start, StartFault, SupposedEmpty, SystemFolder, found_in};
+use run_file::{LogFolder, LogFound, Start, SupposedEmpty, SystemFolder, found_in};
 use scheduler::{Desk, Pace};
 use stable_record::{Disk, FileDisk, Identity};
 use std::alloc::{AllocError, Global};
@@ -42,6 +51,9 @@ use udp::UdpPort;
 
 /// For how many seconds a unit is left to another member by default.
 const TAKEOVER: u32 = 600;
+
+/// At how many members a unit's build may fail by default.
+const TRIES: u8 = 2;
 
 /// Runs the member's node until it is down or at rest, and returns its line. The status is 0 if all
 /// that isn't ignored is held, and 3 otherwise. Faults of turns and of the work folder are printed
@@ -74,12 +86,14 @@ pub fn build_of_words<E: Write>(
     let weights = weights_of_words(rt.alloc(), site.members, site.weights)?;
     let keys = SystemKeys::of(rt);
     let place = place_of_words(rt.alloc(), &keys, site.members, peers, patience, run)?;
-    build_on(rt, &tree, &weights, site, me, place, err)
+    let folder: SystemFolder<'_, SupposedEmpty> = SystemFolder::at(rt, site.dir);
+    build_on(rt, &folder, &tree, &weights, site, me, place, err)
 }
 
-/// Runs the member's node, which starts at this place.
-fn build_on<E: Write>(
+/// Runs the member's node, which starts at this place on its log in the folder.
+fn build_on<F: LogFolder, E: Write>(
     rt: &HostRuntime,
+    folder: &F,
     tree: &Tree,
     weights: &Weights,
     site: &Site<'_>,
@@ -89,17 +103,21 @@ fn build_on<E: Write>(
 ) -> Result<Answer, Refusal>
     requires { length place.addresses.items ≡ length weights.now }
     ensures built { IfOk result (λ answer. (me < length weights.now)
-        × IsOfNode AnyRunFile empty_past.calls (run_at tree.now weights.now place) me
+        × IsOfNode (F.gave folder.now me) (F.known folder.now me)
+        (run_at tree.now weights.now place) me
         (λ before. IsLineAfter site.now.rest before me answer.text.items answer.status)) }
-    ensures refused { IfErr result (RefusesBuildOn (run_at tree.now weights.now place) me) }
+    ensures refused { IfErr result (RefusesBuildOn (F.had_mode folder.now)
+        (F.gave folder.now me) (F.known folder.now me) (run_at tree.now weights.now place) me) }
 {
-    let telling = Telling::new(rt.alloc(), me, None, place.sealing.is_watched());
-    let folder: SystemFolder<'_, SupposedEmpty> = SystemFolder::at(rt, site.dir);
-    let begun = begin(rt, tree, weights, &folder, me, place)?;
+    let is_watched = place.sealing.is_watched();
+    let mut place = place;
+    place.units = Some(Units::new(rt.alloc(), tree)?.len());
+    let begun = begin(rt, tree, weights, folder, me, place)?;
     let Begun { start, port } = begun;
     let Start { disk, unwritten } = start;
     let mut disk = disk;
     let is_noted = has_notes(&mut disk, &identity_of(tree, weights, me))?;
+    let telling = Telling::new(rt.alloc(), me, None, is_watched);
     let office = office_of(rt, site, me, is_noted, telling)?;
     let start = Start { disk, unwritten };
     build_on_log(rt, start, port, office, tree, weights, site, me, err)
@@ -110,30 +128,31 @@ fn build_on<E: Write>(
 ///
 /// # Errors
 ///
-/// The log can't be read.
+/// The log can't be read, or memory ran out.
 pub fn has_notes(disk: &mut FileDisk, owner: &Identity) -> Result<bool, Refusal>
     ensures lacks { IfOk result (λ has. has ≡ false → LacksNotes owner.now disk.new) }
+    ensures noted { IfOk result (λ has. has ≡ true → IsNoted owner.now disk.new) }
     ensures kept { file_agrees disk.new → file_agrees disk.old }
     ensures same { file_agrees disk.new → file_history disk.new ≡ file_history disk.old }
-    ensures refused { IfErr result (λ r. (shown : _) (is_continued : _)
-        → IsStartRefusal AnyMode AnyRunFile owner.now shown is_continued r) }
+    ensures refused { IfErr result IsDiskRefusal }
 {
     match found_in(disk, owner) {
         Ok(LogFound::Noted) => Ok(true),
         Ok(LogFound::Absent) => Ok(false),
         Ok(LogFound::Blank) => Ok(false),
         Ok(LogFound::Fresh) => Ok(false),
-        Err(fault) => Err(Refusal::of(&StartFault::from(fault))),
+        Err(fault) => Err(Refusal::of(&fault)),
     }
 }
 
-/// The work between the node's turns. The node has the work folder to itself.
+/// The work between the turns of the member's node, which has the work folder to itself.
+/// `has_notes` says whether the node's log has notes.
 ///
 /// # Errors
 ///
 /// The system refused to open the work folder or to read the clock; the folder has files although
 /// the node's log has no notes; or others may write in it.
-fn office_of<'f>(
+pub fn office_of<'f>(
     rt: &HostRuntime,
     site: &Site<'f>,
     me: u8,
@@ -145,7 +164,7 @@ fn office_of<'f>(
     let folder = folder_of(rt, site.work, me, has_notes)?;
     let now = Instant::now(rt)?;
     let takeover = site.takeover.unwrap_or(TAKEOVER);
-    let pace = pace_of(site.jobs, takeover);
+    let pace = pace_of(site, takeover);
     Ok(Office {
         desk: Desk::new(rt.alloc(), folder, pace, has_notes, now),
         pacing: Pacing::new(now),
@@ -177,14 +196,15 @@ fn folder_of<'f>(
     }
 }
 
-/// The waits of a node that builds `jobs` units at a time, by default one, and leaves the units of
-/// other members to them for `takeover` seconds.
-fn pace_of(jobs: Option<u8>, takeover: u32) -> Pace {
+/// How many units are built here at a time, by default one; at how many members a unit's build may
+/// fail; and the waits. The units of other members are left to them for `takeover` seconds.
+fn pace_of(site: &Site<'_>, takeover: u32) -> Pace {
     Pace {
-        jobs: u32::from(jobs.unwrap_or(1)),
+        jobs: u32::from(site.jobs.unwrap_or(1)),
         ask: Duration::from_secs(1),
         takeover: Duration::from_secs(u64::from(takeover)),
         slot: Duration::from_millis(250),
+        tries: site.tries.unwrap_or(TRIES),
     }
 }
 
@@ -206,32 +226,52 @@ fn build_on_log<E: Write>(
         (λ before. IsLineAfter site.now.rest before me answer.text.items answer.status)) }
     ensures refused { IfErr result RefusesOnLog }
 {
-    let solo = solo_on_log(rt, start, port, tree, weights, site.dir, me)?;
-    match answer_after(rt, solo, office, site.rest, me, err) {
-        Ok(answer) => Ok(answer),
-        Err(_) => Err(Refusal::memory()),
-    }
+    let mut office = office;
+    run_on_log(rt, start, port, &mut office, tree, weights, site, me, err)
+}
+
+/// Opens the member's node on the log on which it starts, and runs it.
+fn run_on_log<E: Write>(
+    rt: &HostRuntime,
+    start: Start,
+    port: UdpPort<'_, HostRuntime>,
+    office: &mut Office<'_>,
+    tree: &Tree,
+    weights: &Weights,
+    site: &Site<'_>,
+    me: u8,
+    err: &mut E,
+) -> Result<Answer, Refusal>
+    requires { me < length weights.now }
+    ensures built { IfOk result (λ answer. IsOfNodeOn start.disk port.entry
+        tree.now weights.now me
+        (λ before. IsLineAfter site.now.rest before me answer.text.items answer.status)) }
+    ensures refused { IfErr result RefusesOnLog }
+{
+    let mut solo = solo_on_log(rt, start, port, tree, weights, site.dir, me)?;
+    answer_after(rt, &mut solo, office, site.rest, me, err)
 }
 
 /// Runs the node's turns, and returns its answer.
 fn answer_after<E: Write>(
     rt: &HostRuntime,
-    solo: Solo<'_, FileDisk, UdpPort<'_, HostRuntime>>,
-    office: Office<'_>,
+    solo: &mut Solo<'_, FileDisk, UdpPort<'_, HostRuntime>>,
+    office: &mut Office<'_>,
     rest: Option<u32>,
     me: u8,
     err: &mut E,
-) -> Result<Answer, AllocError>
-    ensures { IfOk result (λ answer.
-        IsLineAfter rest solo.entry me answer.text.items answer.status) }
+) -> Result<Answer, Refusal>
+    ensures answer { IfOk result (λ answer.
+        IsLineAfter rest solo.old me answer.text.items answer.status) }
+    ensures refused { IfErr result RefusesOnLog }
 {
-    let mut solo = solo;
-    let mut office = office;
-    let is_ended = run(rt, &mut solo, &mut office, rest, err);
-    if is_ended {
-        answer_of(rt.alloc(), &solo, me)
-    } else {
-        Err(AllocError)
+    let is_ended = run(rt, solo, office, rest, err);
+    if !is_ended {
+        return Err(Refusal::memory());
+    }
+    match answer_of(rt.alloc(), solo, me) {
+        Ok(answer) => Ok(answer),
+        Err(_) => Err(Refusal::memory()),
     }
 }
 

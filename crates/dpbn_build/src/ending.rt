@@ -4,8 +4,10 @@ ghost use Rattle.dpbn_build.specs.Turns.{IsAtEnd};
 ghost use Rattle.protocol.specs.Step.{job_of_claim};
 
 use crate::office::Office;
+use ballots::{Claimer, Tally};
 use datagram_ports::Port;
 use dpbn_node::Solo;
+use member::Member;
 use stable_record::Disk;
 use std::io::Write;
 use std::time::{Duration, Instant};
@@ -14,18 +16,74 @@ use std::time::{Duration, Instant};
 /// claimed: the slots of nine members, and a question with its slot.
 const SLOTS: u64 = 5;
 
+/// The most members of a run.
+const MOST_MEMBERS: u8 = 9;
+
+/// How many members answered to the open claim.
+#[derive(Clone, Copy)]
+pub(crate) struct Answers {
+    /// Those that promised, while the claim gathers promises.
+    promises: u32,
+    /// Those that voted, while it gathers votes.
+    votes: u32,
+}
+
+impl Answers {
+    /// Nobody answered.
+    fn none() -> Answers {
+        Answers {
+            promises: 0,
+            votes: 0,
+        }
+    }
+
+    /// The answers to the member's open claim so far. A member that answers again isn't counted
+    /// again.
+    pub fn of(member: &Member<'_>) -> Answers {
+        let Some(open) = member.open_claim() else {
+            return Answers::none();
+        };
+        match &open.claimer {
+            Claimer::Gathering { promised, .. } => Answers {
+                promises: count_of(promised),
+                votes: 0,
+            },
+            Claimer::Building { .. } => Answers::none(),
+            Claimer::Voting { voted, .. } => Answers {
+                promises: 0,
+                votes: count_of(voted),
+            },
+        }
+    }
+}
+
+/// How many members joined.
+fn count_of(joined: &Tally) -> u32 {
+    let mut count: u32 = 0;
+    for member in 0..MOST_MEMBERS {
+        if joined.has(member) {
+            count = count.saturating_add(1);
+        }
+    }
+    count
+}
+
 /// For how long nothing has happened.
 #[derive(Clone, Copy)]
 pub(crate) struct Rest {
-    /// When something was last noted, or somebody who asked learned something.
+    /// When something was last noted, when another member promised or voted, or when somebody who
+    /// asked learned something.
     since: Instant,
     /// The log's length at that time, in bytes.
     log_len: u64,
-    /// When something was last held, built or failed here, or somebody who asked learned something.
-    /// This ignores notes, because claims that are taken over again and again are noted, too.
+    /// When something was last held, built, voted for or failed here, or somebody who asked learned
+    /// something. This ignores notes and promises, because claims that are taken over again and
+    /// again are noted and promised, too.
     moved_at: Instant,
     /// The number of held packages at that time.
     held: u64,
+    /// The answers to the open claim after the last turn.
+    answers: Answers,
     /// After how many seconds another member's unit is taken over.
     takeover: u32,
     /// How many members there are.
@@ -40,23 +98,34 @@ impl Rest {
             log_len: 0,
             moved_at: now,
             held: 0,
+            answers: Answers::none(),
             takeover,
             members,
         }
     }
 
-    /// Notes what the last turn did: the log's length, the number of held packages, and whether the
-    /// turn answered a question or gave the node the result of its job.
-    pub fn note(&mut self, now: Instant, log_len: u64, held: u64, has_moved: bool) {
-        let has_moved = has_moved || held != self.held;
+    /// Notes what the last turn left: the log's length, the number of held packages, and how many
+    /// members answered to the open claim. `has_moved` says whether it answered a question or gave
+    /// the node the result of its job.
+    pub fn note(
+        &mut self,
+        now: Instant,
+        log_len: u64,
+        held: u64,
+        answers: Answers,
+        has_moved: bool,
+    ) {
+        let has_moved = has_moved || held != self.held || answers.votes > self.answers.votes;
+        let is_promised = answers.promises > self.answers.promises;
         if has_moved {
             self.moved_at = now;
             self.held = held;
         }
-        if has_moved || log_len != self.log_len {
+        if has_moved || is_promised || log_len != self.log_len {
             self.since = now;
             self.log_len = log_len;
         }
+        self.answers = answers;
     }
 
     /// Starts again, because something is being built here.
@@ -87,7 +156,8 @@ pub(crate) fn is_at_end<D: Disk, P: Port, E: Write>(
     rest: Option<u32>,
     err: &mut E,
 ) -> bool
-    ensures { result ≡ true → IsAtEnd rest solo.now.node.node }
+    ensures ends { result ≡ true → IsAtEnd rest solo.now.node.node }
+    ensures down { solo.now.node.node.stopped ≡ true → result ≡ true }
 {
     if solo.node().is_stopped() {
         return true;

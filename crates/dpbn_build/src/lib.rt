@@ -5,10 +5,13 @@
 mod answering;
 mod ending;
 mod host;
+mod notices;
 mod office;
 mod pacing;
 mod turning;
 mod work_folder;
 
-pub use crate::answering::{build_of_words, has_notes};
+pub use crate::answering::{build_of_words, has_notes, office_of};
+pub use crate::office::Office;
+pub use crate::turning::run;
 pub use dpbn_node::{MemPort, Port, Solo, UdpPort, node_of_words};

@@ -1,6 +1,6 @@
 //! The work between a node's turns: its builds, its wishes, and what is printed about it.
 
-use crate::ending::Rest;
+use crate::ending::{Answers, Rest};
 use crate::host::Builder;
 use crate::pacing::Pacing;
 use datagram_ports::Port;
@@ -49,26 +49,26 @@ pub(crate) struct Turned {
 
 /// The work between a node's turns.
 #[derive(Drop)]
-pub(crate) struct Office<'f> {
-    pub desk: Desk<'f>,
-    pub pacing: Pacing,
-    pub builder: Builder<'f>,
-    pub rest: Rest,
-    pub telling: Telling,
+pub struct Office<'f> {
+    pub(crate) desk: Desk<'f>,
+    pub(crate) pacing: Pacing,
+    pub(crate) builder: Builder<'f>,
+    pub(crate) rest: Rest,
+    pub(crate) telling: Telling,
     /// Every how many seconds the node's line is printed, if at all.
-    pub progress: Option<u32>,
+    pub(crate) progress: Option<u32>,
     /// When it was printed last.
-    pub told_at: Instant,
+    pub(crate) told_at: Instant,
     /// When the last check for the end and for retries was.
-    pub looked_at: Instant,
+    pub(crate) looked_at: Instant,
     /// Whether it was printed that the log is nearly full.
-    pub is_full_told: bool,
+    pub(crate) is_full_told: bool,
 }
 
 impl<'f> Office<'f> {
     /// The input of the next turn. A fault of the work folder is printed, and then there is no
     /// input for a while.
-    pub fn hand_in<D: Disk, P: Port, E: Write>(
+    pub(crate) fn hand_in<D: Disk, P: Port, E: Write>(
         &mut self,
         rt: &HostRuntime,
         solo: &Solo<'_, D, P>,
@@ -109,7 +109,15 @@ impl<'f> Office<'f> {
             return Ok((made, None));
         }
         let wish = self.desk.wish(rt, member, solo.is_in_the_way(), now)?;
-        Ok((made, wish))
+        Ok((made, self.unless_early(wish)))
+    }
+
+    /// The wish, unless it is a question and the notice of a failed build has to come first.
+    fn unless_early(&self, wish: Option<Wish>) -> Option<Wish> {
+        match wish {
+            Some(Wish::Ask { .. }) if self.pacing.is_noticing() => None,
+            wish => wish,
+        }
     }
 
     /// The result for the member's job, if there is one. A malformed result is printed, and counts
@@ -166,7 +174,7 @@ impl<'f> Office<'f> {
     }
 
     /// Updates the state after a turn, and prints what is to be printed about it.
-    pub fn keep<D: Disk, P: Port, E: Write>(
+    pub(crate) fn keep<D: Disk, P: Port, E: Write>(
         &mut self,
         rt: &HostRuntime,
         solo: &Solo<'_, D, P>,
@@ -201,7 +209,9 @@ impl<'f> Office<'f> {
         }
         let log_len = solo.node().log_len();
         let held = held_of(solo.counts());
-        self.rest.note(self.pacing.now, log_len, held, has_moved);
+        let answers = Answers::of(solo.node().member());
+        self.rest
+            .note(self.pacing.now, log_len, held, answers, has_moved);
         self.tell_fill(log_len, err);
     }
 
@@ -221,7 +231,8 @@ impl<'f> Office<'f> {
         self.keep_act(rt, member, &Act::Own(input), err);
     }
 
-    /// Updates the desk after a step of the node.
+    /// Updates the desk after a step of the node. A mark that couldn't be written is a fault, too:
+    /// the build counts as failed all the same.
     fn keep_act<E: Write>(
         &mut self,
         rt: &HostRuntime,
@@ -229,13 +240,14 @@ impl<'f> Office<'f> {
         act: &Act,
         err: &mut E,
     ) {
-        if let Err(fault) = self.desk.took(rt, member, act, self.pacing.now) {
-            self.refuse(&fault, err);
+        match self.desk.took(rt, member, act, self.pacing.now) {
+            Ok(None) => {}
+            Ok(Some(fault)) | Err(fault) => self.refuse(&fault, err),
         }
     }
 
     /// Whether the next check for the end and for retries is due.
-    pub fn is_look_due(&mut self) -> bool {
+    pub(crate) fn is_look_due(&mut self) -> bool {
         let is_due = self.pacing.now.duration_since(self.looked_at) >= Duration::from_millis(LOOK);
         if is_due {
             self.looked_at = self.pacing.now;
@@ -244,7 +256,7 @@ impl<'f> Office<'f> {
     }
 
     /// Forgets the failed builds whose marks are gone.
-    pub fn retry<E: Write>(&mut self, rt: &HostRuntime, err: &mut E) {
+    pub(crate) fn retry<E: Write>(&mut self, rt: &HostRuntime, err: &mut E) {
         if self.pacing.is_paused() {
             return;
         }
@@ -254,7 +266,7 @@ impl<'f> Office<'f> {
     }
 
     /// Prints a fault of the work folder. The node has no wishes for a while.
-    fn refuse<E: Write>(&mut self, fault: &WorkFault, err: &mut E) {
+    pub(crate) fn refuse<E: Write>(&mut self, fault: &WorkFault, err: &mut E) {
         self.telling.refused(Refusal::of(fault), err);
         self.pacing.pause();
     }
@@ -268,7 +280,7 @@ impl<'f> Office<'f> {
     }
 
     /// Prints the node's line, and then a line for each other member.
-    pub fn tell_line<E: Write>(
+    pub(crate) fn tell_line<E: Write>(
         &mut self,
         alloc: Global,
         counts: Option<Counts>,
@@ -280,7 +292,7 @@ impl<'f> Office<'f> {
     }
 
     /// Whether the node's line is due.
-    pub fn is_due(&self) -> bool {
+    pub(crate) fn is_due(&self) -> bool {
         match self.progress {
             Some(seconds) => {
                 self.pacing.now.duration_since(self.told_at)

@@ -14,6 +14,10 @@ const PAUSE: u64 = 1_000;
 /// The least time between two repeated offers, in milliseconds.
 const AGAIN: u64 = 1_000;
 
+/// For how long nothing is asked after a build failed, in milliseconds: the notice of that has to
+/// come first, since the question gives the unit back.
+const NOTICED: u64 = 100;
+
 /// What the last turns mean for the next wish and the next wait.
 #[derive(Clone, Copy)]
 pub(crate) struct Pacing {
@@ -25,6 +29,8 @@ pub(crate) struct Pacing {
     refused_at: Option<Instant>,
     /// When the node last repeated an offer.
     again_at: Option<Instant>,
+    /// When a build last failed here.
+    failed_at: Option<Instant>,
 }
 
 impl Pacing {
@@ -35,6 +41,7 @@ impl Pacing {
             busy_since: None,
             refused_at: None,
             again_at: None,
+            failed_at: None,
         }
     }
 
@@ -70,6 +77,11 @@ impl Pacing {
         self.is_less_than(AGAIN, self.again_at)
     }
 
+    /// Whether a build failed so recently that nothing is asked yet.
+    pub fn is_noticing(&self) -> bool {
+        self.is_less_than(NOTICED, self.failed_at)
+    }
+
     /// Whether it happened, less than this number of milliseconds ago.
     fn is_less_than(&self, milliseconds: u64, then: Option<Instant>) -> bool {
         match then {
@@ -93,8 +105,11 @@ impl Pacing {
         match input {
             Input::Nudge => self.again_at = Some(self.now),
             Input::Claim { .. } if !is_wished => self.again_at = Some(self.now),
-            Input::Claim { .. } | Input::Built { .. } | Input::Failed { .. } => self.again_at =
-                None,
+            Input::Failed { .. } => {
+                self.again_at = None;
+                self.failed_at = Some(self.now);
+            }
+            Input::Claim { .. } | Input::Built { .. } => self.again_at = None,
             Input::Ask { .. } | Input::Message(_) => {}
         }
     }

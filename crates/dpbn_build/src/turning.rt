@@ -2,25 +2,39 @@
 ghost use Rattle.std.specs.Prelude.{◌≡◌, true};
 ghost use Rattle.dpbn_build.specs.Build.{HasBuilt};
 ghost use Rattle.dpbn_build.specs.Turns.{HaveTurned, IsTurn, Turn};
+ghost use Rattle.udp.specs.Notifying.{HasNotified};
 ghost use Rattle.udp.specs.declared.patience.Hurry.{Hurry};
 
 use crate::ending::is_at_end;
+use crate::notices::exchange;
 use crate::office::{Handed, Office, Turned};
 use datagram_ports::Port;
 use dpbn_node::{Initiative, Solo};
 use stable_record::{Disk, FileDisk};
 use std::io::Write;
 use std::time::Clock;
-use udp::{Hurry, Tallies, UdpPort};
+use udp::{Hurry, Notice, Tallies, UdpPort};
 
-/// A port with an adjustable wait that counts what it sends and receives.
-pub(crate) trait Hurried {
+/// A port for a node whose claims are built: its wait can be set, it exchanges notices with other
+/// members, and it counts what it sends and receives.
+pub(crate) trait BuildPort {
     /// The port with this wait.
     ghost hurried: { Self → Hurry → Self };
+
+    /// What may happen to the port when a notice is taken from it or given to it.
+    ghost noticed: { Self → Self → Type 0 };
 
     /// Sets how long a receive waits if nothing came.
     fn set_hurry(&mut self, hurry: Hurry)
         ensures { self.new ≡ hurried self.old hurry };
+
+    /// Takes the first notice that came.
+    fn take_notice(&mut self) -> Option<Notice>
+        ensures { noticed self.old self.new };
+
+    /// Sends the notice to each other member. It may get lost.
+    fn send_notice(&mut self, notice: Notice)
+        ensures { noticed self.old self.new };
 
     /// The number of datagrams that were offered so far.
     fn sends(&self) -> u64;
@@ -29,11 +43,21 @@ pub(crate) trait Hurried {
     fn seen(&self) -> &Tallies;
 }
 
-impl<'c, C: Clock> Hurried for UdpPort<'c, C> {
+impl<'c, C: Clock> BuildPort for UdpPort<'c, C> {
     ghost hurried = { λ port hurry. record port { hurry = hurry } };
+
+    ghost noticed = { HasNotified };
 
     fn set_hurry(&mut self, hurry: Hurry) {
         UdpPort::set_hurry(self, hurry)
+    }
+
+    fn take_notice(&mut self) -> Option<Notice> {
+        UdpPort::take_notice(self)
+    }
+
+    fn send_notice(&mut self, notice: Notice) {
+        UdpPort::send_notice(self, notice)
     }
 
     fn sends(&self) -> u64 {
@@ -48,7 +72,7 @@ impl<'c, C: Clock> Hurried for UdpPort<'c, C> {
 /// Takes turns until the node is down or at rest, and then sends what is still queued to be sent.
 /// Faults of turns are printed on `err`, and so are the node's lines. Returns whether the node is
 /// down or at rest. If it isn't, it took as many turns as can be counted.
-pub(crate) fn run<E: Write>(
+pub fn run<E: Write>(
     rt: &HostRuntime,
     solo: &mut Solo<'_, FileDisk, UdpPort<'_, HostRuntime>>,
     office: &mut Office<'_>,
@@ -64,15 +88,14 @@ pub(crate) fn run<E: Write>(
 }
 
 /// Takes turns until the node is down or at rest, and returns whether it is.
-fn take_turns<D: Disk, P: Port + Hurried, E: Write>(
+fn take_turns<D: Disk, P: Port + BuildPort, E: Write>(
     rt: &HostRuntime,
     solo: &mut Solo<'_, D, P>,
     office: &mut Office<'_>,
     rest: Option<u32>,
     err: &mut E,
 ) -> bool
-    ensures { result ≡ true → HaveTurned D.is_kept D.history D.failures_of P.given P.offered
-        P.does P.vouches P.hurried rest solo.old solo.new }
+    ensures { result ≡ true → HaveTurned D.Disk P.Port P.noticed P.hurried rest solo.old solo.new }
 {
     for _ in 0..u64::MAX {
         take_turn(rt, solo, office, err);
@@ -84,16 +107,16 @@ fn take_turns<D: Disk, P: Port + Hurried, E: Write>(
     false
 }
 
-/// Takes a turn, and updates and prints what follows from it.
-fn take_turn<D: Disk, P: Port + Hurried, E: Write>(
+/// Exchanges notices and takes a turn, and updates and prints what follows from it.
+fn take_turn<D: Disk, P: Port + BuildPort, E: Write>(
     rt: &HostRuntime,
     solo: &mut Solo<'_, D, P>,
     office: &mut Office<'_>,
     err: &mut E,
 )
-    ensures { (turn : Turn) × IsTurn D.is_kept D.history D.failures_of P.given P.offered P.does
-        P.vouches P.hurried solo.old turn solo.new }
+    ensures { (turn : Turn) × IsTurn D.Disk P.Port P.noticed P.hurried solo.old turn solo.new }
 {
+    exchange(solo, office, err);
     let Handed { made, wish, hurry } = office.hand_in(rt, solo, err);
     let is_wished = wish.is_some();
     solo.port().set_hurry(hurry);
@@ -109,7 +132,7 @@ fn take_turn<D: Disk, P: Port + Hurried, E: Write>(
 }
 
 /// Prints what is due after a turn.
-fn tell_turn<D: Disk, P: Port + Hurried, E: Write>(
+fn tell_turn<D: Disk, P: Port + BuildPort, E: Write>(
     rt: &HostRuntime,
     solo: &mut Solo<'_, D, P>,
     office: &mut Office<'_>,

@@ -109,7 +109,7 @@ example_work : value_at (codes "work") (build_words (codes "--base" ∷ codes "5
 unfolding matched dpbn_app clap_on_literals
 example_work = refl
 
-example_times : AreTaken (build_words (codes "--hosts=h:1" ∷ codes "--key=K" ∷ codes "--jobs=64" ∷ codes "--takeover=1" ∷ codes "--rest=1000000" ∷ codes "--progress=5" ∷ []))
+example_times : AreTaken (build_words (codes "--hosts=h:1" ∷ codes "--key=K" ∷ codes "--jobs=64" ∷ codes "--takeover=1" ∷ codes "--tries=9" ∷ codes "--rest=1000000" ∷ codes "--progress=5" ∷ []))
 unfolding faults_of matched dpbn_app clap_on_literals
 example_times = refl
 
@@ -125,6 +125,14 @@ example_build_no_key = refl
 example_no_jobs : faults_of (build_words (codes "--base" ∷ codes "5000" ∷ codes "--jobs" ∷ codes "0" ∷ [])) ≡ kind.ValueValidation ∷ []
 unfolding faults_of matched dpbn_app clap_on_literals
 example_no_jobs = refl
+
+example_no_tries : faults_of (build_words (codes "--base" ∷ codes "5000" ∷ codes "--tries" ∷ codes "0" ∷ [])) ≡ kind.ValueValidation ∷ []
+unfolding faults_of matched dpbn_app clap_on_literals
+example_no_tries = refl
+
+example_tries : value_at (codes "tries") (build_words (codes "--base" ∷ codes "5000" ∷ codes "--tries" ∷ codes "9" ∷ [])) ≡ Some (codes "9")
+unfolding matched dpbn_app clap_on_literals
+example_tries = refl
 
 example_no_turns : faults_of (build_words (codes "--base" ∷ codes "5000" ∷ codes "--turns" ∷ codes "200" ∷ [])) ≡ kind.UnknownArgument ∷ []
 unfolding faults_of matched dpbn_app clap_on_literals

@@ -11,7 +11,7 @@ use Rattle.dpbn_cli.specs.declared.Peers.{Peers}
 use Rattle.dpbn_cli.specs.declared.Peers.TheVariants.{Base, Hosts}
 use Rattle.dpbn_cli.specs.declared.Run.{Run}
 use Rattle.dpbn_cli.specs.declared.Site.{Site}
-use Rattle.dpbn_cli.specs.declared.call_table.TheConstants.{BASE, CALLS, JOBS, ME, MEMBERS, PATIENCE, REST, PROGRESS_IN_SECONDS, TAKEOVER, TURNS, PROGRESS_IN_TURNS}
+use Rattle.dpbn_cli.specs.declared.call_table.TheConstants.{BASE, CALLS, JOBS, ME, MEMBERS, PATIENCE, REST, PROGRESS_IN_SECONDS, TAKEOVER, TRIES, TURNS, PROGRESS_IN_TURNS}
 use Rattle.dpbr_cli.specs.Calls.{IsExplained, number_fault}
 use Rattle.dpbr_cli.specs.Explaining.{asks_release}
 use Rattle.dpbr_cli.specs.Table.{program, shapes_of}
@@ -100,6 +100,7 @@ pub record IsSite (rows : List Row) (s : Site) : Type 0 where
   pub weights : IsWordIf rows (codes "weights") (option_map (λ t. t.now) s.weights)
   pub jobs : IsNumberIf rows (codes "jobs") JOBS.2 s.jobs
   pub takeover : IsNumberIf rows (codes "takeover") TAKEOVER.2 s.takeover
+  pub tries : IsNumberIf rows (codes "tries") TRIES.2 s.tries
   pub rest : IsNumberIf rows (codes "rest") REST.2 s.rest
   pub progress : IsNumberIf rows (codes "progress") PROGRESS_IN_SECONDS.2 s.progress
   pub single : IsFlag rows (codes "single") s.is_single

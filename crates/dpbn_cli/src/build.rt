@@ -7,7 +7,7 @@ ghost use Rattle.dpbr_cli.specs.Values.{IsNumberIf};
 ghost use Rattle.dpbr_cli.specs.shared.Matches.{MayHaveNumber};
 
 use crate::call_table::{
-    DIR, JOBS, LISTING, MEMBERS, PROGRESS_IN_SECONDS, REST, TAKEOVER, WEIGHTS, WORK,
+    DIR, JOBS, LISTING, MEMBERS, PROGRESS_IN_SECONDS, REST, TAKEOVER, TRIES, WEIGHTS, WORK,
 };
 use crate::one_node::one_node_of;
 use crate::{Call, Site};
@@ -48,6 +48,7 @@ fn site_of<'a>(found: &ArgMatches<'a>) -> Option<Site<'a>>
         weights: text_of(found, WEIGHTS.0),
         jobs: jobs_of(found)?,
         takeover: number_if(found, &TAKEOVER)?,
+        tries: tries_of(found)?,
         rest: number_if(found, &REST)?,
         progress: number_if(found, &PROGRESS_IN_SECONDS)?,
         is_single: is_set(found, SINGLE.0),
@@ -63,6 +64,19 @@ fn jobs_of(found: &ArgMatches<'_>) -> Option<Option<u8>>
 {
     match number_if(found, &JOBS)? {
         Some(jobs) => Some(Some(jobs as u8)),
+        None => Some(None),
+    }
+}
+
+/// At how many members a unit's build may fail, if it was given.
+fn tries_of(found: &ArgMatches<'_>) -> Option<Option<u8>>
+    ensures some { IfSome result
+        (IsNumberIf (rows_of (found_of found.now)) (codes "tries") TRIES.2) }
+    ensures none { IfNone result
+        (¬ MayHaveNumber (rows_of (found_of found.now)) (codes "tries") TRIES.2) }
+{
+    match number_if(found, &TRIES)? {
+        Some(tries) => Some(Some(tries as u8)),
         None => Some(None),
     }
 }

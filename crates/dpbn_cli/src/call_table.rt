@@ -74,6 +74,14 @@ pub const TAKEOVER: Argument<'static> = (
     "seconds until a unit of another member is taken over, 1 to 1000000 [default: 600]",
 );
 
+pub const TRIES: Argument<'static> = (
+    "tries",
+    Place::Optional,
+    Kind::Number(1, 9),
+    Some("N"),
+    "at how many members a unit's build may fail before nobody else tries, 1 to 9 [default: 2]",
+);
+
 pub const REST: Argument<'static> = (
     "rest",
     Place::Optional,
@@ -191,6 +199,7 @@ pub const SITE: &[Argument<'static>] = &[
     WEIGHTS,
     JOBS,
     TAKEOVER,
+    TRIES,
     REST,
     PROGRESS_IN_SECONDS,
     SINGLE,

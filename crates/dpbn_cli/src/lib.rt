@@ -58,6 +58,8 @@ pub struct Site<'a> {
     /// The number of seconds for which a unit that was promised to another member is left to that
     /// member: 1 to 1,000,000.
     pub takeover: Option<u32>,
+    /// At how many members a unit's build may fail before nobody else claims the unit: 1 to 9.
+    pub tries: Option<u8>,
     /// The number of seconds without anything to do after which the node ends: 1 to 1,000,000. If
     /// None, only a signal ends it.
     pub rest: Option<u32>,

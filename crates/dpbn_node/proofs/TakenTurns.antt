@@ -1,25 +1,22 @@
 -- Turns that count.
-use Rattle.std.proofs.Common.{◌≡◌, ◌+◌, ◌++◌, ◌∙◌, ℕ, Bool, List, [], ◌∷◌, Option, ap, cond, refl, sym}
+use Rattle.std.proofs.Common.{◌≡◌, ◌+◌, ◌++◌, ◌∙◌, ℕ, Bool, [], ◌∷◌, ap, cond, refl, sym}
 use Rattle.std.proofs.lemmas.List.Sums.{sum_by_push}
-use Rattle.datagram_ports.specs.Calls.{Call}
-use Rattle.datagram_ports.specs.Kept.{Arrived, Parcel}
 use Rattle.dpbn_node.specs.Node.{HaveTaken}
-use Rattle.faults.specs.Bytes.{Text}
 use Rattle.lone_node.proofs.Turns.{TurnsLead-append}
 use Rattle.lone_node.specs.Handed.{Handed}
 use Rattle.lone_node.specs.State.{SoloState}
 use Rattle.lone_node.specs.Turns.{IsTurn, Outcome, counts}
-use Rattle.stable_record.specs.History.{History}
+use Rattle.stable_record.specs.declared.disk.Disk.{Ghosts as Disk}
+use Rattle.datagram_ports.specs.declared.port.Port.{Ghosts as Port}
 
-module _ {D P : Type 0} (is_kept : D → Type 0) (history : D → History) (failures_of : D → ℕ)
-    (given : P → Option (List Arrived)) (offered : P → Option (List Parcel))
-    (does : P → Call → P → Type 0) (vouches : P → Text → Type 0) (handed : Handed)
+module _ {D P : Type 0} (disk : Disk D)
+    (port : Port P) (handed : Handed)
   where
     abbrev Turn : SoloState D P → SoloState D P → Outcome → Type 0
-    Turn = IsTurn is_kept history failures_of given offered does vouches handed
+    Turn = IsTurn disk port handed
 
     abbrev Have : ℕ → SoloState D P → SoloState D P → Type 0
-    Have = HaveTaken is_kept history failures_of given offered does vouches handed
+    Have = HaveTaken disk port handed
 
     -- no turn yet
     pub none_taken : (state : SoloState D P) → Have 0 state state
@@ -35,6 +32,6 @@ module _ {D P : Type 0} (is_kept : D → Type 0) (history : D → History) (fail
       counted = sum_by_push (λ a. cond (counts a) 1 0) so.answers answer
           ∙ ap (λ n. n + cond (counts answer) 1 0) so.counted
           ∙ ap (λ b. taken + cond b 1 0) (sym tells) ∙ sym is;
-      led = TurnsLead-append is_kept history failures_of given offered does vouches handed
+      led = TurnsLead-append disk port handed
           old between new so.answers answer so.led turn;
     }

@@ -1,11 +1,9 @@
 -- What `dpbn node` prints, and what it reports if it can't run.
-use Rattle.std.specs.Prelude.{◌≡◌, ◌<◌, ◌⊎◌, ℕ, List, Option, None, count_by, option_map}
-use Rattle.datagram_ports.specs.Calls.{Call}
-use Rattle.datagram_ports.specs.Kept.{Arrived, Parcel}
+use Rattle.std.specs.Prelude.{◌≡◌, ◌<◌, ◌⊎◌, ℕ, List, Option, count_by, option_map}
 use Rattle.dpbn_node.specs.Given.{RefusesWeights}
 use Rattle.dpbn_node.specs.Keys.{AnyKeyFile}
 use Rattle.dpbn_node.specs.Starts.{AnyMode, AnyRunFile}
-use Rattle.dpbn_node.specs.Runs.{HasFlushed, IsOfNode, IsRunOf, RefusesPlace, RefusesStart, RunOf, Running, letters_of, port_vouches}
+use Rattle.dpbn_node.specs.Runs.{HasFlushed, IsOfNode, IsRunOf, RefusesPlace, RefusesStart, RunOf, Running, file_disk, letters_of, udp_port}
 pub use Rattle.dpbn_node.specs.Runs.{AreGood, socket_refusal}
 use Rattle.dpbn_cli.specs.declared.Files.{Files}
 use Rattle.dpbn_cli.specs.declared.Peers.{Peers}
@@ -20,29 +18,26 @@ use Rattle.lone_node.specs.State.{SoloState}
 use Rattle.lone_node.specs.Turns.{Outcome, TurnsLead, counts}
 use Rattle.run_file.specs.Looking.{empty_past}
 use Rattle.stable_record.specs.History.{History}
-use Rattle.stable_record.specs.RealFile.{file_agrees, file_history}
 use Rattle.input_files.specs.Builds.{AreBuilds, RefusesBuildsFile}
-use Rattle.udp.specs.Calls.{DoesOverUdp}
+use Rattle.stable_record.specs.declared.disk.Disk.{Ghosts as Disk}
+use Rattle.datagram_ports.specs.declared.port.Port.{Ghosts as Port}
 
 -- ---- what is printed
 
 -- Turns led from one state to the other. This number of them count: turns in which memory ran out
 -- don't.
-pub record HaveTaken {D P : Type 0} (is_kept : D → Type 0) (history : D → History)
-    (failures_of : D → ℕ) (given : P → Option (List Arrived)) (offered : P → Option (List Parcel))
-    (does : P → Call → P → Type 0) (vouches : P → Text → Type 0) (handed : Handed) (turns : ℕ)
+pub record HaveTaken {D P : Type 0} (disk : Disk D) (port : Port P) (handed : Handed) (turns : ℕ)
     (old new : SoloState D P) : Type 0 where
   pub answers : List Outcome
   pub counted : count_by counts answers ≡ turns
-  pub led : TurnsLead is_kept history failures_of given offered does vouches handed old answers new
+  pub led : TurnsLead disk port handed old answers new
 
 -- This number of turns, each with these builds, led from one state of the node to another, and then
 -- its port handed all queued datagrams to the system. In each turn the port went through the turn's
 -- calls, and each call did to it what such a call does over UDP.
 pub record HasRun (builds : Given) (turns : ℕ) (old new : Running) : Type 0 where
   pub last : Running
-  pub turned : HaveTaken file_agrees file_history (λ disk. disk.failures) (λ port. None)
-      (λ port. None) DoesOverUdp port_vouches (AllBuilds builds) turns old last
+  pub turned : HaveTaken file_disk udp_port (AllBuilds builds) turns old last
   pub flushed : HasFlushed last new
 
 -- The line says what the node shows after this number of turns.

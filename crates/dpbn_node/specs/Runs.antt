@@ -23,6 +23,7 @@ use Rattle.node.specs.declared.fault.NodeFault.{NodeFault}
 use Rattle.program_io.specs.Listings.{IsDescribed}
 use Rattle.program_io.specs.Refusals.{IsSystemRefusal, memory_refusal}
 use Rattle.program_io.specs.declared.refusal.Refusal.{Refusal}
+use Rattle.protocol.specs.Answers.{tree_digest}
 use Rattle.protocol.specs.State.{engine_of}
 use Rattle.run_file.specs.Starts.{IsStarted}
 pub use Rattle.lone_node.specs.Handed.{SoFar}
@@ -31,13 +32,17 @@ pub use Rattle.lone_node.specs.Turns.{IsTurn, Outcome}
 use Rattle.stable_record.specs.Crash.{AllAlong}
 use Rattle.stable_record.specs.History.{History, seen}
 use Rattle.stable_record.specs.Opening.{HasOneAnswer, Opens, OpensAsLeft}
-use Rattle.stable_record.specs.RealFile.{file_agrees, file_history}
+use Rattle.stable_record.specs.RealFile.{file_agrees, file_history, file_room}
+use Rattle.stable_record.specs.declared.disk.Disk.{Ghosts as Disk}
+use Rattle.datagram_ports.specs.Granted.{IsGranted}
+use Rattle.datagram_ports.specs.declared.port.Port.{Ghosts as Port}
 use Rattle.stable_record.specs.declared.file_disk.FileDisk.{FileDisk}
-use Rattle.udp.specs.Calls.{setup_of}
+use Rattle.udp.specs.Calls.{DoesOverUdp, IsEmpty, setup_of}
 use Rattle.udp.specs.Hosts.{IsFirstBad, WriteHosts}
 use Rattle.udp.specs.Inbox.{is_vouched_for}
 use Rattle.udp.specs.Leaving.{texts_of as texts_that_wait}
 use Rattle.udp.specs.Ways.{AreLocal, IsSeatOf}
+use Rattle.udp.specs.declared.notice.Listing.{Listing}
 use Rattle.udp.specs.declared.udp_port.UdpPort.{UdpPort}
 
 -- ---- nodes
@@ -54,6 +59,26 @@ Running = SoloState FileDisk (UdpPort LibcRuntime)
 -- the port vouches for this text: the bytes that encode it are among those received
 abbrev pub port_vouches : UdpPort LibcRuntime → Text → Type 0
 port_vouches port text = is_vouched_for port.inbox.key port.inbox.came text ≡ true
+
+-- what contracts see of the log's file
+abbrev pub file_disk : Disk FileDisk
+file_disk = record {
+  history = file_history;
+  is_kept = file_agrees;
+  failures_of = λ disk. disk.failures;
+  room = λ disk. file_room;
+}
+
+-- what contracts see of a port over UDP
+abbrev pub udp_port : Port (UdpPort LibcRuntime)
+udp_port = record {
+  given = λ port. None;
+  offered = λ port. None;
+  failures_of = λ port. port.failures;
+  does = DoesOverUdp;
+  vouches = port_vouches;
+  may_send = λ port text. IsGranted port.granted.all text;
+}
 
 -- The port handed all queued datagrams to the system, in order and each once, and nothing else. Its
 -- configuration and keys are unchanged, and nothing was received.
@@ -100,8 +125,8 @@ pub record IsOfNodeOn (log : FileDisk) (port : UdpPort LibcRuntime) (tree : Tree
 -- ---- runs
 
 -- The run that a node belongs to: the tree, the members' weights and addresses, the key if there is
--- one, whether datagrams from any address are accepted if there is none, and whether a log must
--- already exist.
+-- one, and whether a log must already exist. Without a key it may accept datagrams from all
+-- addresses.
 pub record RunOf : Type 0 where
   pub tree : Tree
   pub weights : List ℕ
@@ -146,6 +171,12 @@ run_at tree weights place = record {
   is_continued = place.is_continued;
 }
 
+-- the listing that notices are about, if the node reads and sends notices in a run with this number
+-- of units
+abbrev pub listing_of : Tree → Option ℕ → Option Listing
+listing_of tree None = None
+listing_of tree (Some units) = Some (record { digest = tree_digest tree; units = units })
+
 -- The port seals what it sends, and opens what it receives, with the run's key, if there is one. It
 -- accepts no datagrams from strangers if there is a key, or if the run doesn't accept them.
 pub record IsGuarded (of : RunOf) (port : UdpPort LibcRuntime) : Type 0 where
@@ -163,13 +194,14 @@ pub record IsSeated (of : RunOf) (me : ℕ) (port : UdpPort LibcRuntime) : Type 
 
 -- A start in the run was made for the member, in a folder in which a read of its run file gave
 -- this, and about whose log this is supposed. The port is its own and accepts only what the run
--- allows.
+-- allows. Nothing came there or left yet, and nothing waits.
 pub record HasBegun (gave : Option Text → Type 0) (known : History) (of : RunOf) (me : ℕ)
     (begun : Begun) : Type 0 where
   pub started : IsStarted gave known (owner of.tree of.weights me) (shown_of of.key)
       of.is_continued begun.start.disk (option_map string_bytes begun.start.unwritten)
   pub seated : IsSeated of me begun.port
   pub guarded : IsGuarded of begun.port
+  pub empty : IsEmpty begun.port
 
 -- `Is` holds of the state of the member's node when it was opened on the log of a start in the run,
 -- with a port of its own that accepts only what the run allows.

@@ -18,12 +18,12 @@ owner tree weights me = record {
   me = me;
 }
 
--- Each folder may have each mode: no contract says what mode a folder of the system has.
+-- Each folder may have any mode: no contract says what mode a folder of the system has.
 abbrev pub AnyMode : ℕ → Type 0
 AnyMode mode = ⊤
 
--- Each read of a run file may have given each text, or that there is none: no contract says what
--- the system's files give.
+-- Each read of a run file may have given any text or found no file: no contract says what the
+-- system's files give.
 abbrev pub AnyRunFile : Option Text → Type 0
 AnyRunFile text = ⊤
 

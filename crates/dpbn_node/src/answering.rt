@@ -24,9 +24,9 @@ use udp::UdpPort;
 /// Runs the member's node for the given number of turns, and returns its line. Why a turn is
 /// refused is printed on `err`; the turn counts, unless memory ran out.
 ///
-/// Everything that can be wrong is checked before the first turn, in this order: the listing, the
-/// builds, the weights, the key's file, the hosts, the member, the log's file and its run file, the
-/// socket, the log, and whether the run file can be written.
+/// Everything that can be wrong is checked before the first turn. First come the listing, the
+/// builds, the weights, the key's file, the hosts and the member. Then come the log's file and its
+/// run file, the socket, the log, and whether the run file can be written.
 ///
 /// # Errors
 ///

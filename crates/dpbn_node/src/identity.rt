@@ -20,9 +20,10 @@ use std::alloc::Global;
 ///
 /// # Errors
 ///
-/// The system's refusal, also if the log is locked; that others may write in the folder; that the
-/// log can't be read; that it is lost, belongs to another run, or is missing although the run is
-/// continued.
+/// - The system's refusal, also if the log is locked.
+/// - Others may write in the folder.
+/// - The log can't be read; it is lost, or belongs to another run; or it is missing although the
+///   run is continued.
 pub fn start_of<F: LogFolder>(
     alloc: Global,
     folder: &F,

@@ -1,4 +1,4 @@
-//! What `dpbn node` does: one member's node runs on its log and hears its peers over UDP; and what
+//! What `dpbn node` does: one member's node runs on its log and hears its peers over UDP. Also what
 //! each run of a node needs: its key, its peers, the log on which it starts, and its messages.
 #![tactic(auto)]
 

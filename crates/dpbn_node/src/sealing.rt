@@ -57,6 +57,7 @@ impl Sealing {
         ensures closed { self.now.key ≢ None → result.is_open ≡ false }
         ensures members { self.now.is_open ≡ false → result.is_open ≡ false }
         ensures limited { result.front ≡ Some request_front }
+        ensures unnoticed { result.listing ≡ None }
     {
         let guard = match &self.key {
             Some(key) => Guard::sealed(seal_under(key, tree, weights), LONGEST_PIECE),
@@ -97,6 +98,7 @@ pub fn front_of_requests() -> [u8; 5]
 fn unsealed(is_open: bool) -> Guard
     ensures unsealed { result.seal ≡ None }
     ensures members { is_open ≡ false → result.is_open ≡ false }
+    ensures unnoticed { result.listing ≡ None }
 {
     if is_open {
         Guard::open()

@@ -1,5 +1,18 @@
 //! How a member's node starts: its run, its place among its peers, its log and its port.
-ghost use Rattle.std.specs.Prelude.{◌≡◌, ◌<◌, ◌≤◌, ◌⊎◌, IfErr, IfOk, length, option_map};
+ghost use Rattle.std.specs.Prelude.{
+  ◌≡◌,
+  ◌≢◌,
+  ◌<◌,
+  ◌≤◌,
+  ◌⊎◌,
+  IfErr,
+  IfOk,
+  None,
+  Some,
+  false,
+  length,
+  option_map,
+};
 ghost use Rattle.dpbn_node.specs.Runs.{
   AreGood,
   HasBegun,
@@ -12,13 +25,15 @@ ghost use Rattle.dpbn_node.specs.Runs.{
   RefusesPlace,
   RefusesStart,
   is_local,
+  listing_of,
   member_refusal,
   run_at,
   socket_refusal,
 };
-ghost use Rattle.dpbn_node.specs.Keys.{IsKeyOf};
+ghost use Rattle.dpbn_node.specs.Keys.{IsKeyOf, seal_of};
 ghost use Rattle.run_file.specs.Looking.{IsOwn};
 ghost use Rattle.program_io.specs.Refusals.{memory_refusal};
+ghost use Rattle.udp.specs.Calls.{IsEmpty};
 ghost use Rattle.udp.specs.Ways.{IsSeatOf};
 
 use crate::{Sealing, identity_of, key_of_words, start_of, write_unwritten};
@@ -48,6 +63,25 @@ pub struct Place {
     pub patience: u16,
     /// Whether a log of the run must already exist.
     pub is_continued: bool,
+    /// The number of units, if the node reads and sends notices of failed builds.
+    pub units: Option<u32>,
+}
+
+impl Place {
+    /// Which datagrams the node's port accepts, in the run over the tree, among members with these
+    /// weights.
+    fn guard(&self, tree: &Tree, weights: &Weights) -> Guard
+        ensures sealed { result.seal ≡ seal_of tree.now weights.now self.now.sealing.key }
+        ensures closed { self.now.sealing.key ≢ None → result.is_open ≡ false }
+        ensures members { self.now.sealing.is_open ≡ false → result.is_open ≡ false }
+        ensures notices { result.listing ≡ listing_of tree.now self.now.units }
+    {
+        let guard = self.sealing.guard(tree, weights);
+        match self.units {
+            Some(units) => guard.with_notices(tree.digest(), units),
+            None => guard,
+        }
+    }
 }
 
 /// The place that the arguments describe.
@@ -84,6 +118,7 @@ pub fn place_of_words<K: KeyFiles>(
         addresses,
         patience: patience.unwrap_or(PATIENCE),
         is_continued: run.is_continued,
+        units: None,
     })
 }
 
@@ -143,6 +178,8 @@ pub fn begin<'c, F: LogFolder>(
     ensures own { IfOk result (λ begun. IsOwn (F.had_mode folder.now)) }
     ensures begun { IfOk result (HasBegun (F.gave folder.now me) (F.known folder.now me)
         (run_at tree.now weights.now place) me) }
+    ensures notices { IfOk result
+        (λ begun. begun.port.notices.listing ≡ listing_of tree.now place.units) }
     ensures refused { IfErr result (RefusesStart (F.had_mode folder.now) (F.gave folder.now me) me
         (run_at tree.now weights.now place)) }
 {
@@ -157,7 +194,7 @@ pub fn begin<'c, F: LogFolder>(
         &place.sealing,
         place.is_continued,
     )?;
-    let guard = place.sealing.guard(tree, weights);
+    let guard = place.guard(tree, weights);
     let port = port_of(rt, place.addresses, me, place.patience, guard)?;
     Ok(Begun { start, port })
 }
@@ -187,6 +224,8 @@ fn port_of<'c>(
     ensures sealed { IfOk result (λ port. (port.inbox.key ≡ guard.seal)
         × (port.outbox.key ≡ guard.seal)) }
     ensures open { IfOk result (λ port. port.is_open ≡ guard.is_open) }
+    ensures notices { IfOk result (λ port. port.notices.listing ≡ guard.listing) }
+    ensures empty { IfOk result IsEmpty }
     ensures refused { IfErr result (λ r. (r ≡ memory_refusal) ⊎ (r ≡ socket_refusal)) }
 {
     match UdpPort::alone_behind(rt, rt, rt.alloc(), addresses, me, patience, guard) {

@@ -57,7 +57,7 @@ fn take_turns<D: Disk, P: Port + Counting, E: Write>(
     telling: &mut Telling,
     err: &mut E,
 ) -> u32
-    ensures { HaveTaken D.is_kept D.history D.failures_of P.given P.offered P.does P.vouches
+    ensures { HaveTaken D.Disk P.Port
         (AllBuilds builds.now) result solo.old solo.new }
 {
     let mut taken = 0;
@@ -87,9 +87,8 @@ fn take_turn<D: Disk, P: Port, E: Write>(
     telling: &mut Telling,
     err: &mut E,
 ) -> bool
-    ensures { (answer : Outcome) × IsTurn D.is_kept D.history D.failures_of P.given P.offered
-        P.does P.vouches (AllBuilds builds.now) solo.old solo.new answer
-        × (result ≡ counts answer) }
+    ensures { (answer : Outcome) × IsTurn D.Disk P.Port (AllBuilds builds.now) solo.old solo.new
+        answer × (result ≡ counts answer) }
 {
     match solo.turn(builds) {
         Ok(done) => {

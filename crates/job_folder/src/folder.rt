@@ -329,7 +329,11 @@ impl<'f> Folder<'f> {
         ensures { IfErr result IsOfSystem }
     {
         let path = self.path_of(rt.alloc(), part, name)?;
-        Ok(fs::exists(rt, path.as_str())?)
+        match fs::metadata(rt, path.as_str()) {
+            Ok(_) => Ok(true),
+            Err(error) if is_missing(error.kind()) => Ok(false),
+            Err(error) => Err(WorkFault::from(error)),
+        }
     }
 
     /// Whether the result exists but isn't a regular file.
@@ -339,7 +343,7 @@ impl<'f> Folder<'f> {
         let path = self.path_of(rt.alloc(), Part::Done, name)?;
         match fs::metadata(rt, path.as_str()) {
             Ok(it) => Ok(!it.is_file()),
-            Err(error) if error.kind() == ErrorKind::NotFound => Ok(false),
+            Err(error) if is_missing(error.kind()) => Ok(false),
             Err(error) => Err(WorkFault::from(error)),
         }
     }
@@ -351,7 +355,7 @@ impl<'f> Folder<'f> {
         let path = self.path_of(rt.alloc(), Part::Done, name)?;
         match OpenOptions::new().read(true).open(rt, path.as_str()) {
             Ok(file) => Ok(Some(file)),
-            Err(error) if error.kind() == ErrorKind::NotFound => Ok(None),
+            Err(error) if is_missing(error.kind()) => Ok(None),
             Err(error) => Err(WorkFault::from(error)),
         }
     }
@@ -386,13 +390,18 @@ fn is_lately(then: SystemTime, now: SystemTime) -> bool {
     }
 }
 
+/// Whether this error says that there is no such file. A subfolder that is a file has none in it.
+fn is_missing(kind: ErrorKind) -> bool {
+    matches!(kind, ErrorKind::NotFound | ErrorKind::NotADirectory)
+}
+
 /// Removes a file, if it exists.
 fn removed(rt: &HostRuntime, path: &str) -> Result<(), WorkFault>
     ensures { IfErr result IsOfSystem }
 {
     match fs::remove_file(rt, path) {
         Ok(()) => Ok(()),
-        Err(error) if error.kind() == ErrorKind::NotFound => Ok(()),
+        Err(error) if is_missing(error.kind()) => Ok(()),
         Err(error) => Err(WorkFault::from(error)),
     }
 }

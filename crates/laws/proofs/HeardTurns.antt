@@ -2,14 +2,13 @@
 use Rattle.std.proofs.Common.{◌≡◌, ◌++◌, ◌<◌, ℕ, zero, suc, List, [], ◌∷◌, Option, None, Some, Result, Ok, length, map, slice_get, refl, sym, ap, subst, ◌∙◌, arith, inl}
 use Rattle.std.specs.Prelude.{Contains, option_map}
 use Rattle.std.proofs.lemmas.List.{append-nil, map-append}
-use Rattle.datagram_ports.specs.Calls.{Call}
-use Rattle.datagram_ports.specs.Kept.{Arrived, GoesOnBy, Parcel}
+use Rattle.datagram_ports.specs.Kept.{GoesOnBy, Parcel}
 use Rattle.faults.specs.Bytes.{Text}
 use Rattle.laws.proofs.OnHosts.{turns_are_of_a_run}
 use Rattle.laws.proofs.Places.{some_same}
 use Rattle.laws.specs.Hosts.{Hosts, sends_of}
 use Rattle.laws.specs.OnHosts.{IsAfterTurn, TookOffered}
-use Rattle.laws.specs.Recorded.{HasHeard, IsAlone, IsAmongFirst, RunsGoOn, offered_to, texts_of}
+use Rattle.laws.specs.Recorded.{HasHeard, IsAlone, offered_to, texts_of}
 use Rattle.laws.specs.Run.{Run}
 use Rattle.laws.specs.declared.recorded.Recorded.{Recorded}
 use Rattle.listing.specs.Tree.{Tree}
@@ -19,13 +18,14 @@ use Rattle.lone_node.specs.Turns.{IsTurn}
 use Rattle.node.proofs.OneStep.{one_step}
 use Rattle.node.specs.OnLog.{texts_of as texts_on}
 use Rattle.node.specs.Parcels.{datagrams_to}
-use Rattle.node.specs.Step.{Taken, Takes}
+use Rattle.node.specs.Step.{Taken}
 use Rattle.node.specs.declared.fault.NodeFault.{NodeFault}
-use Rattle.stable_record.specs.History.{History}
 use Rattle.turn_rules.specs.Acts.{asked_by}
 use Rattle.turn_rules.specs.Offered.{parcels_from}
 use Rattle.turn_rules.specs.declared.act.Act.{Act}
 use Rattle.turn_rules.specs.declared.act.Act.TheVariants.{Own, Datagram}
+use Rattle.stable_record.specs.declared.disk.Disk.{Ghosts as Disk}
+use Rattle.datagram_ports.specs.declared.port.Port.{Ghosts as Port}
 
 -- ---- the record
 
@@ -50,7 +50,7 @@ texts_from : (k : ℕ) (sends : List (ℕ × Text))
 texts_from k [] = refl
 texts_from k (s ∷ sends) = ap (λ l. s.1 ∷ l) (texts_from k sends)
 
--- what stands among the first is one of these
+-- what is among the first is one of these
 among : (xs more : List Parcel) (place : ℕ) (x : Parcel) → place < length xs
     → slice_get (xs ++ more) place ≡ Some x → Contains (texts_of xs) x.text
 among [] more place x below at = absurd (omega (arith, below))
@@ -61,34 +61,33 @@ among (y ∷ ys) more (suc place) x below at =
 
 -- ---- a turn
 
-module _ {D P : Type 0} (is_kept : D → Type 0) (history : D → History) (failures_of : D → ℕ)
-    (given : Recorded P → Option (List Arrived)) (does : Recorded P → Call → Recorded P → Type 0)
-    (vouches : Recorded P → Text → Type 0) (handed : Handed) (old new : SoloState D (Recorded P))
+module _ {D P : Type 0} (disk : Disk D)
+    (port : Port (Recorded P)) (handed : Handed) (old new : SoloState D (Recorded P))
     (tree : Tree) (weights : List ℕ) (first h : Hosts) (k : ℕ) (so_far : Run tree weights first h)
     (alone : IsAlone h k old) where
+  -- what the port offered is what it recorded
+  abbrev its_port : Port (Recorded P)
+  its_port = record port { offered = λ r. r.sends.offered }
+
   abbrev IsTurnSo : Option Act → Type 0
-  IsTurnSo done = IsTurn is_kept history failures_of given (λ (r : Recorded P). r.sends.offered) does
-      vouches handed old new (Ok done)
+  IsTurnSo done = IsTurn disk its_port handed old new (Ok done)
 
   abbrev Goes : Type 0
   Goes = (g : Hosts) × Run tree weights first g × IsAlone g k new
 
   -- The law, if what the turn took was offered before.
   by_law : (done : Option Act) → (turn : IsTurnSo done)
-      → TookOffered is_kept history failures_of given (λ (r : Recorded P). r.sends.offered) does
-      vouches handed old new (Ok done) turn h.offered
+      → TookOffered disk its_port handed old new (Ok done) turn h.offered
       → (g : Hosts) × Run tree weights first g
       × IsAfterTurn h g k old new (texts_on old.node.node.notes) (Ok done)
   by_law done turn came =
-      turns_are_of_a_run is_kept history failures_of given (λ (r : Recorded P). r.sends.offered) does
-      vouches tree weights first h k handed old new (texts_on old.node.node.notes) (Ok done) so_far
+      turns_are_of_a_run disk its_port tree weights first h k handed old new (texts_on old.node.node.notes) (Ok done) so_far
       alone.up (inl refl) turn came
 
   -- the node took a step
   took : (act : Act) (turn : IsTurnSo (Some act)) (ys : List Parcel)
       → offered_to new.port ≡ Some ys
-      → TookOffered is_kept history failures_of given (λ (r : Recorded P). r.sends.offered) does
-      vouches handed old new (Ok (Some act)) turn h.offered
+      → TookOffered disk its_port handed old new (Ok (Some act)) turn h.offered
       → Goes
   took act turn ys recorded came =
       let next = by_law (Some act) turn came in

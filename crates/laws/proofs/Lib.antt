@@ -4,6 +4,7 @@ mod BuildPrograms
 mod Claimed
 mod Claiming
 mod Events
+mod FromStart
 mod HeardTurns
 mod Holding
 mod Lists
@@ -11,6 +12,7 @@ mod Mirrored
 mod Missing
 mod Moving
 mod OnHosts
+mod OneProgram
 mod Ordered
 mod Places
 mod ProgramRuns

@@ -1,5 +1,5 @@
 -- A turn is one of the things that may happen to hosts.
-use Rattle.std.proofs.Common.{◌≡◌, ◌≢◌, ◌++◌, ℕ, List, [], Option, None, Some, Result, Ok, Err, slice_get, slice_set, refl, sym, ap, subst, ◌∙◌, inl, inr, ⊎_elim}
+use Rattle.std.proofs.Common.{◌≡◌, ◌≢◌, ◌++◌, ℕ, List, [], None, Some, Ok, Err, slice_get, slice_set, refl, sym, ap, ◌∙◌, ⊎_elim}
 use Rattle.std.specs.Prelude.{Contains}
 use Rattle.turn_rules.specs.Acts.{asked_by}
 use Rattle.turn_rules.specs.declared.act.Act.{Act}
@@ -14,23 +14,22 @@ use Rattle.laws.specs.Turns.{IsStepTaken}
 use Rattle.listing.specs.Tree.{Tree}
 use Rattle.node.specs.Calls.{left_by}
 use Rattle.node.specs.OnLog.{IsLogged}
-use Rattle.node.specs.State.{LoggedNode, NodeState}
+use Rattle.node.specs.State.{LoggedNode}
 use Rattle.node.specs.Step.{Asked, Comes, Does, after}
 use Rattle.node.specs.declared.fault.NodeFault.{NodeFault}
-use Rattle.datagram_ports.specs.Calls.{Call}
-use Rattle.datagram_ports.specs.Kept.{Arrived, Parcel}
+use Rattle.datagram_ports.specs.Kept.{Parcel}
 use Rattle.lone_node.proofs.Coming.{choice_heard}
 use Rattle.lone_node.specs.Faults.{RefusesChoice}
 use Rattle.lone_node.specs.Handed.{Handed}
 use Rattle.lone_node.specs.State.{SoloState, me_of}
 use Rattle.lone_node.specs.Turn.{IsChosen, IsHeard, LeavesAtMost}
 use Rattle.lone_node.specs.Turns.{IsTurn, Outcome}
-use Rattle.stable_record.specs.History.{History}
 use Rattle.one_list.proofs.uses.HostedNodes.{set_elsewhere, set_there}
+use Rattle.stable_record.specs.declared.disk.Disk.{Ghosts as Disk}
+use Rattle.datagram_ports.specs.declared.port.Port.{Ghosts as Port}
 
-module _ {D P : Type 0} (is_kept : D → Type 0) (history : D → History) (failures_of : D → ℕ)
-    (given : P → Option (List Arrived)) (offered : P → Option (List Parcel))
-    (does : P → Call → P → Type 0) (vouches : P → Text → Type 0) (tree : Tree)
+module _ {D P : Type 0} (disk : Disk D)
+    (port : Port P) (tree : Tree)
     (weights : List ℕ) (first h : Hosts) (k : ℕ) (handed : Handed) (old new : SoloState D P)
     (left : List Text) (before : Run tree weights first h)
     (up : slice_get h.hosts k ≡ Some (Up old.node.node))
@@ -71,7 +70,7 @@ module _ {D P : Type 0} (is_kept : D → Type 0) (history : D → History) (fail
 
   -- the node took its step
   took : (act : Act) → WasOffered h.offered (asked_by act)
-      → IsStepTaken offered old new (asked_by act) → Goes (Ok (Some act))
+      → IsStepTaken port old new (asked_by act) → Goes (Ok (Some act))
   took act came s =
       let step = s.step h.offered came in
       becomes (Ok (Some act)) (Up (after old.node.node s.taken)) (ap Up (sym s.node))
@@ -90,7 +89,7 @@ module _ {D P : Type 0} (is_kept : D → Type 0) (history : D → History) (fail
 
   -- or it was refused
   refused_so : (f : NodeFault)
-      → (r : RefusesChoice given does vouches old new handed f) → WasOffered h.offered r.0
+      → (r : RefusesChoice port old new handed f) → WasOffered h.offered r.0
       → Goes (Err (refused.Node f))
   refused_so f (asked, is_chosen, r) came = ⊎_elim
       (λ takes. becomes (Err (refused.Node f)) (Up (left_by old.node.node asked f))
@@ -101,7 +100,7 @@ module _ {D P : Type 0} (is_kept : D → Type 0) (history : D → History) (fail
         up = up;
         asked = asked;
         fault = f;
-        asks = asks_so given offered does vouches handed (LeavesAtMost is_kept history old new) old
+        asks = asks_so port handed (LeavesAtMost disk old new) old
             new logged asked [] is_chosen;
         came = came;
         refuses = takes;
@@ -127,12 +126,12 @@ module _ {D P : Type 0} (is_kept : D → Type 0) (history : D → History) (fail
       }))
 
   pub goes_on : (answer : Outcome)
-      → (turn : IsTurn is_kept history failures_of given offered does vouches handed old new answer)
-      → TookOffered is_kept history failures_of given offered does vouches handed old new answer
+      → (turn : IsTurn disk port handed old new answer)
+      → TookOffered disk port handed old new answer
       turn h.offered
       → Goes answer
   goes_on (Ok (Some act)) t came = took act came
-      (taken_so given offered does vouches handed (LeavesAtMost is_kept history old new) old new
+      (taken_so port handed (LeavesAtMost disk old new) old new
       logged (Ok (Some act)) t.done.taken)
   goes_on (Ok None) t came =
       stays (Ok None) refl refl (ap (λ (n : LoggedNode D). n.node) (t.done.same).0)
@@ -143,38 +142,37 @@ module _ {D P : Type 0} (is_kept : D → Type 0) (history : D → History) (fail
   goes_on (Err refused.NotSent) t came = absurd t.refuses.refused
   goes_on (Err refused.NotFresh) t came = absurd t.refuses.refused
 
-module _ {D P : Type 0} (is_kept : D → Type 0) (history : D → History) (failures_of : D → ℕ)
-    (given : P → Option (List Arrived)) (offered : P → Option (List Parcel))
-    (does : P → Call → P → Type 0) (vouches : P → Text → Type 0) where
+module _ {D P : Type 0} (disk : Disk D)
+    (port : Port P) where
   pub turns_are_of_a_run :
-      TurnsAreOfARun is_kept history failures_of given offered does vouches
+      TurnsAreOfARun disk port
   turns_are_of_a_run tree weights first h k handed old new left answer before up is_left turn came =
-      goes_on is_kept history failures_of given offered does vouches tree weights first h k
+      goes_on disk port tree weights first h k
       handed old new left before up is_left turn.log.logged answer turn came
 
   -- all that the port vouches for is among these
   abbrev AllAmong : P → List Text → Type 0
-  AllAmong port texts = (text : Text) → vouches port text → Contains texts text
+  AllAmong state texts = (text : Text) → port.vouches state text → Contains texts text
 
   -- bytes that arrived were vouched for, so they were offered
-  was_offered : (texts : List Text) (port : P) → AllAmong port texts
-      → (asked : Asked) → IsHeard vouches port asked → WasOffered texts asked
-  was_offered texts port all (Comes text) heard = all text heard
-  was_offered texts port all (Does input) heard = tt
+  was_offered : (texts : List Text) (state : P) → AllAmong state texts
+      → (asked : Asked) → IsHeard port state asked → WasOffered texts asked
+  was_offered texts state all (Comes text) heard = all text heard
+  was_offered texts state all (Does input) heard = tt
 
   module _ (handed : Handed) (old new : SoloState D P) (texts : List Text) where
     chosen_offered : (asked : Asked) (parcels : List Parcel)
-        → (c : IsChosen given does vouches old new handed parcels (Some (me_of old, asked)))
+        → (c : IsChosen port old new handed parcels (Some (me_of old, asked)))
         → AllAmong c.between texts → WasOffered texts asked
     chosen_offered asked parcels c all = was_offered texts c.between all asked
-        (choice_heard given does vouches old new handed parcels (Some (me_of old, asked)) c asked refl)
+        (choice_heard port old new handed parcels (Some (me_of old, asked)) c asked refl)
 
     -- so it is of what the turn took
     took_offered : (answer : Outcome)
-        → (turn : IsTurn is_kept history failures_of given offered does vouches handed old new answer)
-        → ReceivedOffered is_kept history failures_of given offered does vouches handed old new answer
+        → (turn : IsTurn disk port handed old new answer)
+        → ReceivedOffered disk port handed old new answer
         turn texts
-        → TookOffered is_kept history failures_of given offered does vouches handed old new answer
+        → TookOffered disk port handed old new answer
         turn texts
     took_offered (Ok (Some act)) turn all =
         chosen_offered (asked_by act) _ (turn.done.taken).chosen all
@@ -188,7 +186,7 @@ module _ {D P : Type 0} (is_kept : D → Type 0) (history : D → History) (fail
     took_offered (Err refused.NotFresh) turn all = tt
 
   pub vouched_turns_are_of_a_run :
-      VouchedTurnsAreOfARun is_kept history failures_of given offered does vouches
+      VouchedTurnsAreOfARun disk port
   vouched_turns_are_of_a_run tree weights first h k handed old new left answer before up is_left turn
       all =
       turns_are_of_a_run tree weights first h k handed old new left answer before up is_left turn

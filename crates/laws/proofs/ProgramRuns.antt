@@ -1,11 +1,11 @@
--- The hosts of programs: what stands there while the programs run, and once they ended.
-use Rattle.std.proofs.Common.{◌≡◌, ◌≢◌, ◌<◌, ℕ, Bool, true, false, List, [], ◌∷◌, Option, None, Some, Result, Ok, Err, length, slice_get, slice_set, refl, sym, ap, subst, ◌∙◌, arith, inl, inr}
+-- The hosts of programs: what is there while the programs run, and once they ended.
+use Rattle.std.proofs.Common.{◌≡◌, ◌≢◌, ◌<◌, ℕ, true, false, List, [], ◌∷◌, Some, Ok, length, slice_get, slice_set, refl, sym, ap, subst, ◌∙◌, arith, inl, inr}
 use Rattle.std.specs.Prelude.{Contains}
 use Rattle.faults.specs.Bytes.{Text}
 use Rattle.dpbn_node.specs.Runs.{Running}
 use Rattle.laws.proofs.Places.{all_there, one_alike, some_alike}
 use Rattle.laws.proofs.Reopened.{notes_stay}
-use Rattle.laws.specs.Hosts.{Down, Host, Hosts, IsLeft, TakesStep, Up, WasOffered, at_start}
+use Rattle.laws.specs.Hosts.{Down, Host, Hosts, IsLeft, Up, WasOffered, at_start}
 use Rattle.laws.specs.ProgramLaws.{AreHostsOf}
 use Rattle.laws.specs.Programs.{Place, Programs, Rests, Runs, at_first}
 use Rattle.listing.specs.Tree.{Tree}
@@ -76,7 +76,7 @@ module _ (tree : Tree) (weights : List ℕ) where
     pub each : (k : ℕ) (x : Place) → slice_get p.places k ≡ Some x
         → HasHost p.offered h.hosts k x
 
-  -- it stands there later, too
+  -- it is there later, too
   stands_later : (before after : List Text) → Grows before after → (k : ℕ) (x : Place) (y : Host)
       → Stands before k x y → Stands after k x y
   stands_later before after grows k (Runs s) y (n, is, at) = (

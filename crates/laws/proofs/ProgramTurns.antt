@@ -2,8 +2,7 @@
 use Rattle.std.proofs.Common.{◌≡◌, ◌≢◌, ◌++◌, ◌⊎◌, ℕ, Bool, true, false, List, [], Option, None, Some, Result, Ok, Err, slice_get, refl, sym, ap, subst, ◌∙◌, inl, inr}
 use Rattle.std.specs.Prelude.{Contains, IfOk}
 use Rattle.std.proofs.lemmas.List.Elements.{Contains-append_left}
-use Rattle.std.specs.declared.rt.LibcRuntime.{LibcRuntime}
-use Rattle.dpbn_node.specs.Runs.{Running, port_vouches}
+use Rattle.dpbn_node.specs.Runs.{Running, file_disk, udp_port}
 use Rattle.faults.specs.Bytes.{Text}
 use Rattle.laws.proofs.OnHosts.{turns_are_of_a_run}
 use Rattle.laws.proofs.ProgramRuns.{Grows, HasHost, IsAt, Stands, at_up, left_later, still_stopped}
@@ -22,7 +21,7 @@ use Rattle.node.proofs.OneStep.{one_step}
 use Rattle.node.specs.Calls.{left_by}
 use Rattle.node.specs.OnLog.{IsOnLog, identity, identity_of, texts_of}
 use Rattle.node.specs.State.{LoggedNode, NodeState}
-use Rattle.node.specs.Step.{Asked, Taken, Takes, after}
+use Rattle.node.specs.Step.{Asked, Taken, after}
 use Rattle.node.specs.declared.fault.NodeFault.{NodeFault}
 use Rattle.node.specs.declared.fault.NodeFault.TheVariants as fault
 use Rattle.stable_record.specs.Crash.{MayLeave}
@@ -36,8 +35,6 @@ use Rattle.turn_rules.specs.Acts.{asked_by}
 use Rattle.turn_rules.specs.declared.act.Act.{Act}
 use Rattle.turn_rules.specs.declared.fault.TurnFault.{TurnFault}
 use Rattle.turn_rules.specs.declared.fault.TurnFault.TheVariants as refused
-use Rattle.udp.specs.Calls.{DoesOverUdp}
-use Rattle.udp.specs.declared.udp_port.UdpPort.{UdpPort}
 
 -- ---- what is offered
 
@@ -120,8 +117,8 @@ module _ (tree : Tree) (weights : List ℕ) (first h : Hosts) (so_far : Run tree
     goes_by : host_after new (texts_of old.node.node.notes) answer ≡ Up new.node.node
         → IsAt tree weights later k new new.node.node → Goes
     goes_by stands_up at =
-        let next = turns_are_of_a_run file_agrees file_history (λ (disk : FileDisk). disk.failures)
-        (λ (port : UdpPort LibcRuntime). None) (λ port. None) DoesOverUdp port_vouches tree weights
+        let next = turns_are_of_a_run file_disk
+        udp_port tree weights
         first h k handed old new (texts_of old.node.node.notes) answer so_far there (inl refl) turn
         (subst (HeardOffered handed old new answer turn) (sym offered) heard) in (
           next.0,
@@ -172,8 +169,8 @@ module _ (tree : Tree) (weights : List ℕ) (first h : Hosts) (so_far : Run tree
       stopped = λ e. down;
       on = λ e. absurd (not_both new.node.node.stopped is_down e);
       leaves = λ file may.
-          let left = left_after_turn file_agrees file_history (λ (disk : FileDisk). disk.failures)
-          (λ (port : UdpPort LibcRuntime). None) (λ port. None) DoesOverUdp port_vouches handed old
+          let left = left_after_turn file_disk
+          udp_port handed old
           new on agrees sent answer turn heard file may in (
             left.0,
             subst (λ (i : Identity). HasNotes i left.0 file) own left.1,
@@ -293,10 +290,10 @@ module _ (tree : Tree) (weights : List ℕ) (first h : Hosts) (so_far : Run tree
         },
       )
     where
-      asked : HasOnlyAsked (λ (port : UdpPort LibcRuntime). None) DoesOverUdp port_vouches handed
+      asked : HasOnlyAsked udp_port handed
           old new answer
-      asked = stopped_stays file_agrees file_history (λ (disk : FileDisk). disk.failures)
-          (λ (port : UdpPort LibcRuntime). None) (λ port. None) DoesOverUdp port_vouches handed old
+      asked = stopped_stays file_disk
+          udp_port handed old
           new answer down turn
 
       silent : later ≡ sent
@@ -340,8 +337,8 @@ module _ (tree : Tree) (weights : List ℕ) (first h : Hosts) (so_far : Run tree
       (one_moment (file_history old.node.log.disk) gone.rest gone.moment gone.since
       (sym (unwritten down answer turn) ∙ gone.before) gone.behind) gone.may)
   left_in n at false up answer turn heard file gone =
-      let left = left_in_turn file_agrees file_history (λ (disk : FileDisk). disk.failures)
-      (λ (port : UdpPort LibcRuntime). None) (λ port. None) DoesOverUdp port_vouches handed old new
+      let left = left_in_turn file_disk
+      udp_port handed old new
       (at.on up) agrees sent answer turn heard file gone in (
         left.0,
         subst (λ (i : Identity). HasNotes i left.0 file)

@@ -1,32 +1,27 @@
 -- What programs do is a run of hosts, and so one world.
-use Rattle.std.proofs.Common.{◌≡◌, ◌≢◌, ℕ, List, [], ◌∷◌, Some, Ok, slice_get, slice_set, refl, sym, ap, subst, ◌∙◌, inl, inr}
+use Rattle.std.proofs.Common.{◌≡◌, ℕ, List, Some, Ok, slice_get, slice_set, refl, sym, ap, subst, ◌∙◌, inr}
 use Rattle.std.specs.Prelude.{Contains}
-use Rattle.std.specs.declared.rt.LibcRuntime.{LibcRuntime}
-use Rattle.dpbn_node.specs.Node.{HasRun}
-use Rattle.dpbn_node.specs.Runs.{HasFlushed, Running}
+use Rattle.dpbn_node.specs.Runs.{Running}
 use Rattle.faults.specs.Bytes.{Text}
 use Rattle.laws.proofs.ProgramRuns.{AreAt, Grows, HasHost, IsAt, are_at_after, are_at_first, are_hosts, at_up}
-use Rattle.laws.proofs.ProgramTurns.{ChangesHost, goes_on, killed_in, offers_more}
-use Rattle.laws.proofs.Reopened.{identity_opened}
+use Rattle.laws.proofs.ProgramTurns.{goes_on, killed_in, offers_more}
+use Rattle.laws.proofs.Reopened.{at_moment, identity_opened}
 use Rattle.laws.proofs.Running.{a_world}
 use Rattle.laws.specs.Hosts.{Down, Host, Hosts, IsLeft, Up, at_start}
-use Rattle.laws.specs.ProgramLaws.{NodeTurnsAreOfPrograms, ProgramsMakeAWorld}
+use Rattle.laws.specs.ProgramLaws.{ProgramsMakeAWorld}
 use Rattle.laws.specs.Programs as run
-use Rattle.laws.specs.Programs.{HasEnded, HasStarted, HasTurned, HasWaited, HaveRun, IsTurnThere, OthersDid, Place, ProgramTurnsLead, Programs, Rests, Runs, TurnsHappened, WasKilled, at_first}
+use Rattle.laws.specs.Programs.{HasEnded, HasStarted, HasTurned, HasWaited, HaveRun, Programs, Rests, Runs, WasKilled, WasKilledInStart, at_first}
 use Rattle.laws.specs.Run as hosts
 use Rattle.laws.specs.Run.{Run}
 use Rattle.listing.specs.Tree.{Tree}
-use Rattle.lone_node.specs.Handed.{AllBuilds, Handed}
-use Rattle.lone_node.specs.Turns.{Outcome}
 use Rattle.node.specs.OnLog.{identity, identity_of, texts_of}
 use Rattle.node.specs.State.{NodeState}
 use Rattle.one_list.proofs.uses.HostedNodes.{set_elsewhere, set_there}
-use Rattle.stable_record.specs.History.{seen}
+use Rattle.stable_record.specs.History.{History, seen}
 use Rattle.stable_record.specs.Log.{HasNotes}
-use Rattle.stable_record.specs.Opening.{Opens}
+use Rattle.stable_record.specs.Opening.{Opens, OpensAsLeft}
 use Rattle.stable_record.specs.RealFile.{file_history}
 use Rattle.stable_record.specs.declared.identity.Identity.{Identity}
-use Rattle.udp.specs.declared.udp_port.UdpPort.{UdpPort}
 
 -- ---- one thing after the other
 
@@ -175,6 +170,43 @@ module _ (tree : Tree) (weights : List ℕ) (first : Hosts) where
           opens in
           cc
 
+  -- ---- a program is killed while it starts
+
+  is_killed_in_start : (p q : Programs) (h : Hosts) → Run tree weights first h
+      → AreAt tree weights p h → (s : WasKilledInStart tree weights p q)
+      → HasHost tree weights p.offered h.hosts s.number (Rests s.file) → HasRunOn q
+  is_killed_in_start p q h so_far are s (y, there, (ts, is, opens)) = (
+    h,
+    so_far,
+    are_at_after tree weights p q h h s.number (Rests s.file) (Rests s.new_file) y are s.rests
+        s.places (are.offered ∙ sym s.offered) (same_offered p q s.offered) there (λ j other. refl)
+        (ts, is, opens_still),
+  )
+    where
+      n : NodeState
+      n = s.state.node.node
+
+      its : identity_of n.member ≡ identity tree weights s.number
+      its = identity_opened tree weights s.number n s.opens.opened.node.opened
+
+      before : History
+      before = file_history s.opens.log
+
+      -- the new file opens as one that a crash could leave at first, and that is the old file
+      as_left : OpensAsLeft (identity_of n.member) before s.new_file
+      as_left = at_moment (OpensAsLeft (identity_of n.member) before) before
+          (file_history s.state.node.log.disk) (s.opens.opened.node.any_moment s.opens.agrees)
+          s.left.rest s.left.moment s.left.since s.left.before s.left.behind s.new_file s.left.may
+
+      as_old : Opens (identity_of n.member) as_left.left (Ok ts)
+      as_old = subst (λ (f : Text). Opens (identity_of n.member) f (Ok ts))
+          (sym (s.on_disk as_left.left as_left.could_be))
+          (subst (λ (i : Identity). Opens i s.file (Ok ts)) (sym its) opens)
+
+      opens_still : Opens (identity tree weights s.number) s.new_file (Ok ts)
+      opens_still = subst (λ (i : Identity). Opens i s.new_file (Ok ts)) its
+          ((as_left.same (Ok ts)).0 as_old)
+
   -- ---- all of it
 
   pub runs_on : (early p : Programs) → HasRunOn early → HaveRun tree weights early p → HasRunOn p
@@ -193,6 +225,9 @@ module _ (tree : Tree) (weights : List ℕ) (first : Hosts) where
   runs_on early _ at (run.killed p q did e) =
       let b = runs_on early p at did in
       is_killed p q b.0 b.1 b.2 e ((b.2).each e.number (Runs e.before) e.runs)
+  runs_on early _ at (run.killed_in_start p q did s) =
+      let b = runs_on early p at did in
+      is_killed_in_start p q b.0 b.1 b.2 s ((b.2).each s.number (Rests s.file) s.rests)
 
 pub programs_make_a_world : ProgramsMakeAWorld
 programs_make_a_world division weights p made did =
@@ -208,107 +243,3 @@ programs_make_a_world division weights p made did =
       world.3,
       world.4,
     )
-
--- ---- the turns of one program
-
--- two runs of programs, one after the other
-then_runs : (tree : Tree) (weights : List ℕ) (first mid last : Programs)
-    → HaveRun tree weights first mid → HaveRun tree weights mid last → HaveRun tree weights first last
-then_runs tree weights first mid _ before run.nothing_yet = before
-then_runs tree weights first mid _ before (run.started p q did s) =
-    run.started p q (then_runs tree weights first mid p before did) s
-then_runs tree weights first mid _ before (run.waited p q did s) =
-    run.waited p q (then_runs tree weights first mid p before did) s
-then_runs tree weights first mid _ before (run.turned p q did s) =
-    run.turned p q (then_runs tree weights first mid p before did) s
-then_runs tree weights first mid _ before (run.ended p q did s) =
-    run.ended p q (then_runs tree weights first mid p before did) s
-then_runs tree weights first mid _ before (run.killed p q did s) =
-    run.killed p q (then_runs tree weights first mid p before did) s
-
-module _ (tree : Tree) (weights : List ℕ) (k : ℕ) (first : Programs) where
-  -- the member's program runs in this state
-  pub record IsThere (p : Programs) (s : Running) : Type 0 where
-    pub did : HaveRun tree weights first p
-    pub here : slice_get p.places k ≡ Some (Runs s)
-
-  -- others go on
-  pub others_go : (early late : Programs) (s : Running) → IsThere early s
-      → OthersDid tree weights k early late → IsThere late s
-  others_go early late s there others = record {
-    did = then_runs tree weights first early late there.did others.did;
-    here = others.here ∙ there.here;
-  }
-
-  -- the program takes a turn
-  pub takes : (p q : Programs) (handed : Handed) (before after : Running) (answer : Outcome)
-      → IsThere p before → (turn : run.IsProgramTurn handed before after answer)
-      → IsTurnThere k handed before after answer turn p q → IsThere q after
-  takes p q handed before after answer there turn is = record {
-    did = run.turned p q there.did (record {
-      number = k;
-      before = before;
-      runs = there.here;
-      after = after;
-      takes = record {
-        handed = handed;
-        answer = answer;
-        turn = turn;
-        heard = is.heard;
-        agrees = is.agrees;
-      };
-      places = is.places;
-      offered = is.offered;
-    });
-    here = ap (λ l. slice_get l k) is.places ∙ set_there p.places k (Runs before) (Runs after) there.here;
-  }
-
-  -- the program's port changes
-  abbrev pub with_port : Programs → Running → UdpPort LibcRuntime → Programs
-  with_port p s port = record {
-    places = slice_set p.places k (Runs (record s { port = port }));
-    offered = p.offered;
-  }
-
-  pub port_changes : (p : Programs) (s : Running) (port : UdpPort LibcRuntime) → IsThere p s
-      → IsThere (with_port p s port) (record s { port = port })
-  port_changes p s port there = record {
-    did = run.waited p (with_port p s port) there.did (record {
-      number = k;
-      state = s;
-      runs = there.here;
-      port = port;
-      places = refl;
-      offered = refl;
-    });
-    here = set_there p.places k (Runs s) (Runs (record s { port = port })) there.here;
-  }
-
-  -- the turns of `dpbn node`
-  node_turns : (handed : Handed) (old : Running) (answers : List Outcome) (new : Running)
-      (led : ProgramTurnsLead handed old answers new) (early late : Programs) → IsThere early old
-      → TurnsHappened tree weights k handed old answers new led early late → IsThere late new
-  node_turns handed old [] new led early late there others =
-      subst (IsThere late) (sym led) (others_go early late old there others)
-  node_turns handed old (answer ∷ more) new (between, turn, led) early late there
-      (p, q, others, is, happened) =
-      node_turns handed between more new led q late
-      (takes p q handed old between answer (others_go early p old there others) turn is) happened
-
-  -- the end of the turns: what waits is flushed
-  pub flushes : (late : Programs) (last new : Running) → IsThere late last → HasFlushed last new
-      → (q : Programs) × HaveRun tree weights first q × (slice_get q.places k ≡ Some (Runs new))
-      × (q.offered ≡ late.offered)
-  flushes late last new there flushed =
-      let next = port_changes late last new.port there in (
-        with_port late last new.port,
-        next.did,
-        next.here ∙ ap (λ s. Some (Runs s)) (sym flushed.same),
-        refl,
-      )
-
-pub node_turns_are_of_programs : NodeTurnsAreOfPrograms
-node_turns_are_of_programs tree weights k builds turns old new first early late ran did here happened =
-    flushes tree weights k first late ran.last new
-    (node_turns tree weights k first (AllBuilds builds) old ran.turned.answers ran.last ran.turned.led early late
-    (record { did = did; here = here }) happened) ran.flushed

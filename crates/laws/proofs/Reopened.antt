@@ -19,8 +19,6 @@ use Rattle.node.specs.OnLog.{IsFull, IsLogged, IsOnLog, LeavesOneMoreAtMost, ide
 use Rattle.node.specs.State.{LoggedNode, NodeState, with_note}
 use Rattle.node.specs.Step.{Asked, Taken, Takes}
 use Rattle.node.specs.declared.fault.NodeFault.{NodeFault}
-use Rattle.datagram_ports.specs.Calls.{Call}
-use Rattle.datagram_ports.specs.Kept.{Arrived, Parcel}
 use Rattle.protocol.specs.State.{Value}
 use Rattle.lone_node.specs.Faults.{GoesDown, IsTurnFault}
 use Rattle.lone_node.specs.Handed.{Handed}
@@ -33,6 +31,8 @@ use Rattle.stable_record.specs.Log.{HasBeforeOrAfter, HasNotes}
 use Rattle.stable_record.specs.Opening.{HasOneAnswer, Opens}
 use Rattle.stable_record.specs.declared.identity.Identity.{Identity}
 use Rattle.wire.specs.Spelling.{note_text}
+use Rattle.stable_record.specs.declared.disk.Disk.{Ghosts as Disk}
+use Rattle.datagram_ports.specs.declared.port.Port.{Ghosts as Port}
 
 -- ---- moments
 
@@ -52,7 +52,7 @@ one_moment old rest moment since before behind = by since behind
     ))
 
 -- what holds all along holds of what a crash at any moment leaves
-at_moment : (P : Text → Type 0) (old new : History) → AllAlong P old new
+pub at_moment : (P : Text → Type 0) (old new : History) → AllAlong P old new
     → (rest moment since : History) → new ≡ rest ++ moment → moment ≡ since ++ old
     → Leaves P moment
 at_moment P old _ (at_first leaves) rest moment since before behind =
@@ -139,26 +139,25 @@ opened_with tree weights me own file ts m mine has one opened opens =
 
 -- ---- a turn
 
-module _ {D P : Type 0} (is_kept : D → Type 0) (history : D → History)
-    (given : P → Option (List Arrived)) (offered : P → Option (List Parcel))
-    (does : P → Call → P → Type 0) (vouches : P → Text → Type 0) (handed : Handed)
-    (old new : SoloState D P) (logged : IsLogged old.node) (on : IsOnLog history old.node)
-    (kept : is_kept new.node.log.disk) where
+module _ {D P : Type 0} (disk : Disk D)
+    (port : Port P) (handed : Handed)
+    (old new : SoloState D P) (logged : IsLogged old.node) (on : IsOnLog disk.history old.node)
+    (kept : disk.is_kept new.node.log.disk) where
   abbrev n : NodeState
   n = old.node.node
 
   -- Nothing was done to the log, or the note of this step was written.
   abbrev HasWritten : Type 0
   HasWritten =
-      (history new.node.log.disk ≡ history old.node.log.disk)
+      (disk.history new.node.log.disk ≡ disk.history old.node.log.disk)
       ⊎ ((asked : Asked) × (t : Taken)
       × ((before : List Text) → WasOffered before asked → TakesStep before n asked t)
-      × LeavesOneMoreAtMost n t.answer.note (history old.node.log.disk)
-      (history new.node.log.disk))
+      × LeavesOneMoreAtMost n t.answer.note (disk.history old.node.log.disk)
+      (disk.history new.node.log.disk))
 
   written_of : (asked : Asked) → IsOfATurn asked → (t : Taken) → Takes n asked (Ok t)
       → ¬ IsFull n t.answer.note
-      → LeavesItsNoteAtMost n asked (history old.node.log.disk) (history new.node.log.disk)
+      → LeavesItsNoteAtMost n asked (disk.history old.node.log.disk) (disk.history new.node.log.disk)
       → HasWritten
   written_of asked asks t takes room (inl same) = inl same
   written_of asked asks t takes room (inr (u, other, most)) =
@@ -169,51 +168,51 @@ module _ {D P : Type 0} (is_kept : D → Type 0) (history : D → History)
         asked,
         t,
         λ before came. record { asks = asks; came = came; takes = takes; room = room },
-        subst (λ (x : Taken). LeavesOneMoreAtMost n x.answer.note (history old.node.log.disk)
-            (history new.node.log.disk)) same most,
+        subst (λ (x : Taken). LeavesOneMoreAtMost n x.answer.note (disk.history old.node.log.disk)
+            (disk.history new.node.log.disk)) same most,
       )
 
   went_down : (k : ℕ)
-      → IsTurnFault given does vouches old new handed (LeavesAtMost is_kept history old new) (refused.Down k)
+      → IsTurnFault port old new handed (LeavesAtMost disk old new) (refused.Down k)
       → HasWritten
   went_down k (asked, is_chosen, me, tried, down, leaves) =
       written_of asked
-      (asks_so given offered does vouches handed (LeavesAtMost is_kept history old new) old new
+      (asks_so port handed (LeavesAtMost disk old new) old new
       logged asked [] is_chosen) tried.step tried.takes
-      (has_room given offered does vouches handed (LeavesAtMost is_kept history old new) old new logged
+      (has_room port handed (LeavesAtMost disk old new) old new logged
       tried.step.answer.note tried.room)
       (leaves kept on)
 
   written : (r : Result (Option Act) TurnFault)
       → IfOk r (λ o. IfSome o
-      (λ act. HasTaken given offered does vouches old new handed (asked_by act)))
-      → IfOk r (λ o. IfSome o (λ act. LeavesAtMost is_kept history old new (asked_by act)))
-      → IfErr r (IsTurnFault given does vouches old new handed (LeavesAtMost is_kept history old new))
-      → MatchResult r (λ o. IfNone o (IsUntouched is_kept history old new))
-      (λ f. ((k : ℕ) × (f ≡ refused.Down k)) ⊎ IsUntouched is_kept history old new)
+      (λ act. HasTaken port old new handed (asked_by act)))
+      → IfOk r (λ o. IfSome o (λ act. LeavesAtMost disk old new (asked_by act)))
+      → IfErr r (IsTurnFault port old new handed (LeavesAtMost disk old new))
+      → MatchResult r (λ o. IfNone o (IsUntouched disk old new))
+      (λ f. ((k : ℕ) × (f ≡ refused.Down k)) ⊎ IsUntouched disk old new)
       → HasWritten
   written (Ok None) t leaves fault untouched = inl (untouched kept (λ up. on))
   written (Ok (Some act)) t leaves fault untouched =
       written_of (asked_by act)
-      (asks_so given offered does vouches handed (LeavesAtMost is_kept history old new) old new
+      (asks_so port handed (LeavesAtMost disk old new) old new
       logged (asked_by act) _ t.chosen) t.taken t.takes t.room (leaves kept on)
   written (Err f) t leaves fault untouched = ⊎_elim
       (λ down. went_down down.0
-      (subst (IsTurnFault given does vouches old new handed (LeavesAtMost is_kept history old new)) down.1
+      (subst (IsTurnFault port old new handed (LeavesAtMost disk old new)) down.1
       fault))
       (λ same. inl (same kept (λ up. on))) untouched
 
   -- the node that is opened again has the notes from before, or these and that of the step
   pub opened_again : (r : Result (Option Act) TurnFault)
       → IfOk r (λ o. IfSome o
-      (λ act. HasTaken given offered does vouches old new handed (asked_by act)))
-      → IfOk r (λ o. IfSome o (λ act. LeavesAtMost is_kept history old new (asked_by act)))
-      → IfErr r (IsTurnFault given does vouches old new handed (LeavesAtMost is_kept history old new))
-      → MatchResult r (λ o. IfNone o (IsUntouched is_kept history old new))
-      (λ f. ((k : ℕ) × (f ≡ refused.Down k)) ⊎ IsUntouched is_kept history old new)
+      (λ act. HasTaken port old new handed (asked_by act)))
+      → IfOk r (λ o. IfSome o (λ act. LeavesAtMost disk old new (asked_by act)))
+      → IfErr r (IsTurnFault port old new handed (LeavesAtMost disk old new))
+      → MatchResult r (λ o. IfNone o (IsUntouched disk old new))
+      (λ f. ((k : ℕ) × (f ≡ refused.Down k)) ⊎ IsUntouched disk old new)
       → (tree : Tree) (weights : List ℕ) (me : ℕ) → identity_of n.member ≡ identity tree weights me
       → HasOneAnswer (identity tree weights me) → (file : Text)
-      → MayBeLeft (history old.node.log.disk) (history new.node.log.disk) file
+      → MayBeLeft (disk.history old.node.log.disk) (disk.history new.node.log.disk) file
       → (m : NodeState) → IsOpened tree weights me m
       → Opens (identity_of m.member) file (Ok (texts_of m.notes))
       → IsLeftInTurn n (texts_of m.notes)
@@ -227,11 +226,11 @@ module _ {D P : Type 0} (is_kept : D → Type 0) (history : D → History)
 
       by : HasWritten → IsLeftInTurn n (texts_of m.notes)
       by (inl same) = inl (with_these (texts_of n.notes)
-          (stays_at history old.node on (history new.node.log.disk) file same gone))
+          (stays_at disk.history old.node on (disk.history new.node.log.disk) file same gone))
       by (inr (asked, t, step, most)) = ⊎_elim
           (λ has. inl (with_these (texts_of n.notes) has))
           (λ has. inr (asked, t, step, with_these (texts_of (with_note n.notes t.answer.note)) has))
-          (note_at history old.node on t.answer.note (history new.node.log.disk) file most gone)
+          (note_at disk.history old.node on t.answer.note (disk.history new.node.log.disk) file most gone)
 
 -- a node opened for this member has the member's identity
 pub identity_opened : (tree : Tree) (weights : List ℕ) (me : ℕ) (n : NodeState)
@@ -241,12 +240,11 @@ identity_opened tree weights me n opened =
     ∙ ap (λ (t : Tree). identity t weights me) opened.of_tree
 
 -- So it is of each turn.
-module _ {D P : Type 0} (is_kept : D → Type 0) (history : D → History) (failures_of : D → ℕ)
-    (given : P → Option (List Arrived)) (offered : P → Option (List Parcel))
-    (does : P → Call → P → Type 0) (vouches : P → Text → Type 0) where
-  pub turns_leave_logs : TurnsLeaveLogs is_kept history failures_of given offered does vouches
+module _ {D P : Type 0} (disk : Disk D)
+    (port : Port P) where
+  pub turns_leave_logs : TurnsLeaveLogs disk port
   turns_leave_logs tree weights me handed old new answer file again turn leaves opened opens =
-      opened_again is_kept history given offered does vouches handed old new turn.log.logged
+      opened_again disk port handed old new turn.log.logged
       leaves.on_log leaves.kept answer turn.done.taken turn.log.any_moment turn.refuses.refused
       turn.log.untouched tree weights me leaves.own leaves.one_answer file leaves.left again opened
       (subst (λ (i : Identity). Opens i file (Ok (texts_of again.notes)))
@@ -254,23 +252,22 @@ module _ {D P : Type 0} (is_kept : D → Type 0) (history : D → History) (fail
 
 -- ---- a turn of which it is known that what it took was offered
 
-module _ {D P : Type 0} (is_kept : D → Type 0) (history : D → History) (failures_of : D → ℕ)
-    (given : P → Option (List Arrived)) (offered : P → Option (List Parcel))
-    (does : P → Call → P → Type 0) (vouches : P → Text → Type 0) (handed : Handed)
-    (old new : SoloState D P) (on : IsOnLog history old.node) (kept : is_kept new.node.log.disk)
+module _ {D P : Type 0} (disk : Disk D)
+    (port : Port P) (handed : Handed)
+    (old new : SoloState D P) (on : IsOnLog disk.history old.node) (kept : disk.is_kept new.node.log.disk)
     (before : List Text) where
   -- Nothing was done to the log, or the note of a step that the node takes was written.
   abbrev HasWrittenOne : Type 0
   HasWrittenOne =
-      (history new.node.log.disk ≡ history old.node.log.disk)
+      (disk.history new.node.log.disk ≡ disk.history old.node.log.disk)
       ⊎ ((asked : Asked) × (t : Taken) × TakesStep before old.node.node asked t
-      × LeavesOneMoreAtMost old.node.node t.answer.note (history old.node.log.disk)
-      (history new.node.log.disk))
+      × LeavesOneMoreAtMost old.node.node t.answer.note (disk.history old.node.log.disk)
+      (disk.history new.node.log.disk))
 
   step_of : (asked : Asked) → WasOffered before asked → IsOfATurn asked → (t : Taken)
       → Takes old.node.node asked (Ok t) → ¬ IsFull old.node.node t.answer.note
-      → LeavesItsNoteAtMost old.node.node asked (history old.node.log.disk)
-      (history new.node.log.disk)
+      → LeavesItsNoteAtMost old.node.node asked (disk.history old.node.log.disk)
+      (disk.history new.node.log.disk)
       → HasWrittenOne
   step_of asked came asks t takes room (inl same) = inl same
   step_of asked came asks t takes room (inr (u, other, most)) =
@@ -282,33 +279,33 @@ module _ {D P : Type 0} (is_kept : D → Type 0) (history : D → History) (fail
         t,
         record { asks = asks; came = came; takes = takes; room = room },
         subst (λ (x : Taken). LeavesOneMoreAtMost old.node.node x.answer.note
-            (history old.node.log.disk) (history new.node.log.disk)) same most,
+            (disk.history old.node.log.disk) (disk.history new.node.log.disk)) same most,
       )
 
   down_one : (logged : IsLogged old.node) (k : ℕ)
-      → (g : GoesDown given does vouches old new handed (LeavesAtMost is_kept history old new) k)
+      → (g : GoesDown port old new handed (LeavesAtMost disk old new) k)
       → WasOffered before g.0 → HasWrittenOne
   down_one logged k (asked, is_chosen, me, tried, down, leaves) came =
       step_of asked came
-      (asks_so given offered does vouches handed (LeavesAtMost is_kept history old new) old new
+      (asks_so port handed (LeavesAtMost disk old new) old new
       logged asked [] is_chosen) tried.step tried.takes
-      (has_room given offered does vouches handed (LeavesAtMost is_kept history old new) old new logged
+      (has_room port handed (LeavesAtMost disk old new) old new logged
       tried.step.answer.note tried.room)
       (leaves kept on)
 
   same_but : (f : TurnFault) → ((k : ℕ) → f ≡ refused.Down k → ⊥)
-      → ((k : ℕ) × (f ≡ refused.Down k)) ⊎ IsUntouched is_kept history old new → HasWrittenOne
+      → ((k : ℕ) × (f ≡ refused.Down k)) ⊎ IsUntouched disk old new → HasWrittenOne
   same_but f other (inl (k, is)) = absurd (other k is)
   same_but f other (inr same) = inl (same kept (λ up. on))
 
   written_one : (answer : Outcome)
-      → (turn : IsTurn is_kept history failures_of given offered does vouches handed old new answer)
-      → TookOffered is_kept history failures_of given offered does vouches handed old new answer
+      → (turn : IsTurn disk port handed old new answer)
+      → TookOffered disk port handed old new answer
       turn before
       → HasWrittenOne
   written_one (Ok (Some act)) turn came =
       step_of (asked_by act) came
-      (asks_so given offered does vouches handed (LeavesAtMost is_kept history old new) old new
+      (asks_so port handed (LeavesAtMost disk old new) old new
       turn.log.logged (asked_by act) _ (turn.done.taken).chosen) (turn.done.taken).taken
       (turn.done.taken).takes (turn.done.taken).room (turn.log.any_moment kept on)
   written_one (Ok None) turn came = inl (turn.log.untouched kept (λ up. on))
@@ -340,37 +337,37 @@ module _ {D P : Type 0} (is_kept : D → Type 0) (history : D → History) (fail
 
   -- a crash in the turn leaves such notes
   in_turn : HasWrittenOne → (file : Text)
-      → MayBeLeft (history old.node.log.disk) (history new.node.log.disk) file → HasLeft file
+      → MayBeLeft (disk.history old.node.log.disk) (disk.history new.node.log.disk) file → HasLeft file
   in_turn (inl same) file gone = (
     texts_of old.node.node.notes,
-    stays_at history old.node on (history new.node.log.disk) file same gone,
+    stays_at disk.history old.node on (disk.history new.node.log.disk) file same gone,
     inl refl,
   )
   in_turn (inr (asked, t, step, most)) file gone = left_by_step asked t step file
-      (note_at history old.node on t.answer.note (history new.node.log.disk) file most gone)
+      (note_at disk.history old.node on t.answer.note (disk.history new.node.log.disk) file most gone)
 
   -- and so does one after it
-  after_turn : HasWrittenOne → (file : Text) → MayLeave (history new.node.log.disk) file
+  after_turn : HasWrittenOne → (file : Text) → MayLeave (disk.history new.node.log.disk) file
       → HasLeft file
   after_turn (inl same) file may = (
     texts_of old.node.node.notes,
-    notes_stay history old.node on file (subst (λ (h : History). MayLeave h file) same may),
+    notes_stay disk.history old.node on file (subst (λ (h : History). MayLeave h file) same may),
     inl refl,
   )
   after_turn (inr (asked, t, step, most)) file may = left_by_step asked t step file
-      (note_then history old.node on t.answer.note (history new.node.log.disk) file most may)
+      (note_then disk.history old.node on t.answer.note (disk.history new.node.log.disk) file most may)
 
   pub left_in_turn : (answer : Outcome)
-      → (turn : IsTurn is_kept history failures_of given offered does vouches handed old new answer)
-      → TookOffered is_kept history failures_of given offered does vouches handed old new answer
+      → (turn : IsTurn disk port handed old new answer)
+      → TookOffered disk port handed old new answer
       turn before
-      → (file : Text) → MayBeLeft (history old.node.log.disk) (history new.node.log.disk) file
+      → (file : Text) → MayBeLeft (disk.history old.node.log.disk) (disk.history new.node.log.disk) file
       → HasLeft file
   left_in_turn answer turn came = in_turn (written_one answer turn came)
 
   pub left_after_turn : (answer : Outcome)
-      → (turn : IsTurn is_kept history failures_of given offered does vouches handed old new answer)
-      → TookOffered is_kept history failures_of given offered does vouches handed old new answer
+      → (turn : IsTurn disk port handed old new answer)
+      → TookOffered disk port handed old new answer
       turn before
-      → (file : Text) → MayLeave (history new.node.log.disk) file → HasLeft file
+      → (file : Text) → MayLeave (disk.history new.node.log.disk) file → HasLeft file
   left_after_turn answer turn came = after_turn (written_one answer turn came)

@@ -1,22 +1,20 @@
 -- A turn of a stopped node does nothing.
-use Rattle.std.proofs.Common.{◌≡◌, ◌∙◌, ⊎_elim, ℕ, true, List, [], Option, None, Some, Result, Ok, Err, ap, refl, if◌then◌else◌}
+use Rattle.std.proofs.Common.{◌≡◌, ◌∙◌, ⊎_elim, true, [], None, Some, Result, Ok, Err, ap, refl, if◌then◌else◌}
 use Rattle.turn_rules.specs.declared.fault.TurnFault.{TurnFault}
 use Rattle.turn_rules.specs.declared.fault.TurnFault.TheVariants as refused
-use Rattle.faults.specs.Bytes.{Text}
 use Rattle.laws.specs.OnHosts.{HasOnlyAsked}
 use Rattle.node.specs.Calls.{left_by}
 use Rattle.node.specs.State.{NodeState}
 use Rattle.node.specs.Step.{Asked, Taken, Takes, running_step}
 use Rattle.node.specs.declared.fault.NodeFault.{NodeFault}
 use Rattle.node.specs.declared.fault.NodeFault.TheVariants as fault
-use Rattle.datagram_ports.specs.Calls.{Call}
-use Rattle.datagram_ports.specs.Kept.{Arrived, Parcel}
 use Rattle.lone_node.specs.Faults.{IsTurnFault}
 use Rattle.lone_node.specs.Handed.{Handed}
 use Rattle.lone_node.specs.State.{SoloState, me_of}
 use Rattle.lone_node.specs.Turn.{LeavesAtMost}
 use Rattle.lone_node.specs.Turns.{IsTurn, Outcome}
-use Rattle.stable_record.specs.History.{History}
+use Rattle.stable_record.specs.declared.disk.Disk.{Ghosts as Disk}
+use Rattle.datagram_ports.specs.declared.port.Port.{Ghosts as Port}
 
 -- a stopped node answers that it is stopped, whatever it is asked
 says_stopped : (n : NodeState) (asked : Asked) (r : Result Taken NodeFault) → n.stopped ≡ true
@@ -34,13 +32,12 @@ stays_so n asked f down takes =
     let is : f ≡ fault.Stopped = let e : Err f ≡ Err fault.Stopped = says_stopped n asked (Err f) down takes in cc in
     ap (left_by n asked) is
 
-module _ {D P : Type 0} (is_kept : D → Type 0) (history : D → History) (failures_of : D → ℕ)
-    (given : P → Option (List Arrived)) (offered : P → Option (List Parcel))
-    (does : P → Call → P → Type 0) (vouches : P → Text → Type 0) where
+module _ {D P : Type 0} (disk : Disk D)
+    (port : Port P) where
   pub stopped_stays : (handed : Handed) (old new : SoloState D P) (answer : Outcome)
       → old.node.node.stopped ≡ true
-      → IsTurn is_kept history failures_of given offered does vouches handed old new answer
-      → HasOnlyAsked given does vouches handed old new answer
+      → IsTurn disk port handed old new answer
+      → HasOnlyAsked port handed old new answer
   stopped_stays handed old new (Ok (Some act)) down turn =
       absurd (no_step old.node.node _ turn.done.taken.taken down turn.done.taken.takes)
   stopped_stays handed old new (Ok None) down turn = record {
@@ -50,8 +47,8 @@ module _ {D P : Type 0} (is_kept : D → Type 0) (history : D → History) (fail
   }
   stopped_stays handed old new (Err f) down turn = by f turn.refuses.refused
     where
-      by : (f : TurnFault) → IsTurnFault given does vouches old new handed (LeavesAtMost is_kept history old new) f
-          → HasOnlyAsked given does vouches handed old new (Err f)
+      by : (f : TurnFault) → IsTurnFault port old new handed (LeavesAtMost disk old new) f
+          → HasOnlyAsked port handed old new (Err f)
       by refused.Memory (chosen, is_chosen, same) = record { nothing = tt; node = same; asked = (chosen, is_chosen) }
       by (refused.Node f) (asked, is_chosen, r) = record {
         nothing = tt;

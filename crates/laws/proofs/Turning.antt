@@ -6,7 +6,6 @@ use Rattle.turn_rules.specs.Acts.{asked_by}
 use Rattle.turn_rules.specs.declared.act.Act.{Act}
 use Rattle.turn_rules.specs.declared.fault.TurnFault.{TurnFault}
 use Rattle.turn_rules.specs.declared.fault.TurnFault.TheVariants as refused
-use Rattle.faults.specs.Bytes.{Text}
 use Rattle.laws.proofs.Asking.{chosen_asks, number_is_small}
 use Rattle.laws.specs.Hosts.{IsOfATurn}
 use Rattle.laws.specs.Turns.{IsRefusedTurn, IsStepTaken}
@@ -14,21 +13,20 @@ use Rattle.node.specs.Calls.{left_by}
 use Rattle.node.specs.OnLog.{HasRoomForNote, IsFull, IsLogged}
 use Rattle.node.specs.Step.{Asked}
 use Rattle.turn_rules.specs.Calls.{came_by}
-use Rattle.datagram_ports.specs.Calls.{Call}
-use Rattle.datagram_ports.specs.Kept.{Arrived, Parcel}
+use Rattle.datagram_ports.specs.Kept.{Parcel}
 use Rattle.protocol.specs.State.{Value}
 use Rattle.lone_node.specs.Faults.{IsTurnFault}
 use Rattle.lone_node.specs.Handed.{Handed}
 use Rattle.lone_node.specs.State.{SoloState, me_of}
 use Rattle.lone_node.specs.Turn.{HasTaken, IsChosen, OffersNothing}
 use Rattle.one_list.proofs.uses.HostedNodes.{lack_of_full}
+use Rattle.datagram_ports.specs.declared.port.Port.{Ghosts as Port}
 
-module _ {D P : Type 0} (given : P → Option (List Arrived)) (offered : P → Option (List Parcel))
-    (does : P → Call → P → Type 0) (vouches : P → Text → Type 0) (handed : Handed)
+module _ {D P : Type 0} (port : Port P) (handed : Handed)
     (leaves : Asked → Type 0) (old new : SoloState D P) (logged : IsLogged old.node) where
   -- a turn asks what was chosen
   pub asks_so : (asked : Asked) (parcels : List Parcel)
-      → IsChosen given does vouches old new handed parcels (Some (me_of old, asked))
+      → IsChosen port old new handed parcels (Some (me_of old, asked))
       → IsOfATurn asked
   asks_so asked parcels c =
       chosen_asks old.node.node (number_is_small old.node.node logged.node.member) _ old.pending
@@ -37,8 +35,8 @@ module _ {D P : Type 0} (given : P → Option (List Arrived)) (offered : P → O
   -- if a turn answers what the node did, the node took that step
   pub taken_so : (r : Result (Option Act) TurnFault)
       → IfOk r (λ o. IfSome o
-      (λ act. HasTaken given offered does vouches old new handed (asked_by act)))
-      → IfOk r (λ o. IfSome o (λ act. IsStepTaken offered old new (asked_by act)))
+      (λ act. HasTaken port old new handed (asked_by act)))
+      → IfOk r (λ o. IfSome o (λ act. IsStepTaken port old new (asked_by act)))
   taken_so (Ok (Some act)) t = record {
     taken = t.taken;
     step = λ before came. record {
@@ -56,7 +54,7 @@ module _ {D P : Type 0} (given : P → Option (List Arrived)) (offered : P → O
   -- if there was nothing to do, the node is unchanged
   pub stayed_so : (r : Result (Option Act) TurnFault)
       → IfOk r (λ o. IfNone o ((new.node ≡ old.node) × (new.pending ≡ old.pending)
-      × OffersNothing offered old new))
+      × OffersNothing port old new))
       → IfOk r (λ o. IfNone o (new.node ≡ old.node))
   stayed_so (Ok (Some act)) same = tt
   stayed_so (Ok None) same = same.0
@@ -69,7 +67,7 @@ module _ {D P : Type 0} (given : P → Option (List Arrived)) (offered : P → O
   has_room (Some note) room = λ full. room (lack_of_full old.node logged.end (Some note) full)
 
   -- what a refused turn does
-  pub refused_so : (f : TurnFault) → IsTurnFault given does vouches old new handed leaves f
+  pub refused_so : (f : TurnFault) → IsTurnFault port old new handed leaves f
       → IsRefusedTurn old new f
   refused_so refused.Memory (chosen, is_chosen, same) = same
   refused_so (refused.Node f) (asked, is_chosen, r) = ⊎_elim
@@ -96,6 +94,6 @@ module _ {D P : Type 0} (given : P → Option (List Arrived)) (offered : P → O
   refused_so refused.NotFresh none = absurd none
 
   pub refusals_so : (r : Result (Option Act) TurnFault)
-      → IfErr r (IsTurnFault given does vouches old new handed leaves) → IfErr r (IsRefusedTurn old new)
+      → IfErr r (IsTurnFault port old new handed leaves) → IfErr r (IsRefusedTurn old new)
   refusals_so (Ok o) why = tt
   refusals_so (Err f) why = refused_so f why

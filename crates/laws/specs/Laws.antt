@@ -20,7 +20,7 @@ use Rattle.world.specs.Headline.{HasOneList, IsInRunClosure}
 use Rattle.one_list.specs.MatchingLaws.{IsSafe}
 use Rattle.world.specs.World.{IsMade, World, start}
 
--- The premises are those that README.md lists:
+-- The premises, which README.md has in plain words:
 -- - All nodes have one tree and the same weights (`Run`).
 -- - There is one node for each number, and it runs once at a time (`Host`).
 -- - At the start there is no note, and nothing was sent (`at_start`).

@@ -1,4 +1,6 @@
 pub mod BuildPrograms
+pub mod FirstSent
+pub mod FromStart
 pub mod Hosts
 pub mod Laws
 pub mod Missing

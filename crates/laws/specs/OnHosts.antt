@@ -1,5 +1,5 @@
 -- Laws: turns of a lone node are among the things that may happen to hosts.
-use Rattle.std.specs.Prelude.{◌≡◌, ◌≢◌, ◌++◌, ⊤, ℕ, true, List, [], Option, None, Some, Ok, Err, Contains, IfOk, slice_get}
+use Rattle.std.specs.Prelude.{◌≡◌, ◌≢◌, ◌++◌, ⊤, ℕ, true, List, [], None, Some, Ok, Err, Contains, IfOk, slice_get}
 use Rattle.turn_rules.specs.Acts.{asked_by}
 use Rattle.turn_rules.specs.Choice.{Chosen}
 use Rattle.turn_rules.specs.declared.fault.TurnFault.TheVariants as refused
@@ -8,20 +8,18 @@ use Rattle.laws.specs.Hosts.{Down, Host, Hosts, IsLeft, Up, WasOffered, sends_of
 use Rattle.laws.specs.Run.{Run}
 use Rattle.listing.specs.Tree.{Tree}
 use Rattle.node.specs.Step.{Taken, Takes}
-use Rattle.datagram_ports.specs.Calls.{Call}
-use Rattle.datagram_ports.specs.Kept.{Arrived, Parcel}
 use Rattle.lone_node.specs.Handed.{Handed}
 use Rattle.lone_node.specs.State.{SoloState}
 use Rattle.lone_node.specs.Turn.{IsChosen}
 use Rattle.lone_node.specs.Turns.{IsTurn, Outcome}
-use Rattle.stable_record.specs.History.{History}
+use Rattle.stable_record.specs.declared.disk.Disk.{Ghosts as Disk}
+use Rattle.datagram_ports.specs.declared.port.Port.{Ghosts as Port}
 
-module _ {D P : Type 0} (is_kept : D → Type 0) (history : D → History) (failures_of : D → ℕ)
-    (given : P → Option (List Arrived)) (offered : P → Option (List Parcel))
-    (does : P → Call → P → Type 0) (vouches : P → Text → Type 0) (handed : Handed)
+module _ {D P : Type 0} (disk : Disk D)
+    (port : Port P) (handed : Handed)
     (old new : SoloState D P) where
   abbrev IsThisTurn : Outcome → Type 0
-  IsThisTurn = IsTurn is_kept history failures_of given offered does vouches handed old new
+  IsThisTurn = IsTurn disk port handed old new
 
   -- If the turn took bytes, they were offered before. What it took is what it answers that the node
   -- did, or what the node refused, or what the node was asked when its device failed. A turn that
@@ -37,7 +35,7 @@ module _ {D P : Type 0} (is_kept : D → Type 0) (history : D → History) (fail
 
   -- All texts that the port vouches for were offered before: they were sent in this run.
   abbrev pub VouchesForOffered : P → List Text → Type 0
-  VouchesForOffered port before = (text : Text) → vouches port text → Contains before text
+  VouchesForOffered state before = (text : Text) → port.vouches state text → Contains before text
 
   -- If the turn took something, all that the port vouched for, as the turn's receive left it, was
   -- offered before.
@@ -81,47 +79,43 @@ pub record IsAfterTurn {D P : Type 0} (h g : Hosts) (k : ℕ) (old new : SoloSta
 -- Law: a turn of a running node is one of the things that may happen to hosts, if what it took was
 -- offered before. If its device failed, this holds for whatever a node that ends may leave on its
 -- log.
-abbrev pub TurnsAreOfARun : {D P : Type 0} → (D → Type 0) → (D → History) → (D → ℕ)
-    → (P → Option (List Arrived)) → (P → Option (List Parcel)) → (P → Call → P → Type 0)
-    → (P → Text → Type 0) → Type 0
-TurnsAreOfARun {D} {P} is_kept history failures_of given offered does vouches =
+abbrev pub TurnsAreOfARun : {D P : Type 0} → Disk D
+    → Port P → Type 0
+TurnsAreOfARun {D} {P} disk port =
     (tree : Tree) (weights : List ℕ) (first h : Hosts) (k : ℕ) (handed : Handed)
     (old new : SoloState D P) (left : List Text) (answer : Outcome) → Run tree weights first h
     → slice_get h.hosts k ≡ Some (Up old.node.node) → IsLeft h.offered old.node.node left
-    → (turn : IsTurn is_kept history failures_of given offered does vouches handed old new answer)
-    → TookOffered is_kept history failures_of given offered does vouches handed old new answer
+    → (turn : IsTurn disk port handed old new answer)
+    → TookOffered disk port handed old new answer
     turn h.offered
     → (g : Hosts) × Run tree weights first g × IsAfterTurn h g k old new left answer
 
 -- Law: this also holds if all that the port vouched for, as the turn's receive left it, was offered
 -- before.
-abbrev pub VouchedTurnsAreOfARun : {D P : Type 0} → (D → Type 0) → (D → History) → (D → ℕ)
-    → (P → Option (List Arrived)) → (P → Option (List Parcel)) → (P → Call → P → Type 0)
-    → (P → Text → Type 0) → Type 0
-VouchedTurnsAreOfARun {D} {P} is_kept history failures_of given offered does vouches =
+abbrev pub VouchedTurnsAreOfARun : {D P : Type 0} → Disk D
+    → Port P → Type 0
+VouchedTurnsAreOfARun {D} {P} disk port =
     (tree : Tree) (weights : List ℕ) (first h : Hosts) (k : ℕ) (handed : Handed)
     (old new : SoloState D P) (left : List Text) (answer : Outcome) → Run tree weights first h
     → slice_get h.hosts k ≡ Some (Up old.node.node) → IsLeft h.offered old.node.node left
-    → (turn : IsTurn is_kept history failures_of given offered does vouches handed old new answer)
-    → ReceivedOffered is_kept history failures_of given offered does vouches handed old new answer
+    → (turn : IsTurn disk port handed old new answer)
+    → ReceivedOffered disk port handed old new answer
     turn h.offered
     → (g : Hosts) × Run tree weights first g × IsAfterTurn h g k old new left answer
 
 -- The turn did nothing: the node took no step and is unchanged, and the port was only asked as for
 -- a choice and was offered nothing.
-pub record HasOnlyAsked {D P : Type 0} (given : P → Option (List Arrived))
-    (does : P → Call → P → Type 0) (vouches : P → Text → Type 0) (handed : Handed)
+pub record HasOnlyAsked {D P : Type 0} (port : Port P) (handed : Handed)
     (old new : SoloState D P) (answer : Outcome) : Type 0 where
   pub nothing : IfOk answer (λ o. o ≡ None)
   pub node : new.node.node ≡ old.node.node
-  pub asked : (chosen : Chosen) × IsChosen given does vouches old new handed [] chosen
+  pub asked : (chosen : Chosen) × IsChosen port old new handed [] chosen
 
 -- Law: a turn of a stopped node does nothing. So its host stays down, with the same log.
-abbrev pub StoppedNodesStay : {D P : Type 0} → (D → Type 0) → (D → History) → (D → ℕ)
-    → (P → Option (List Arrived)) → (P → Option (List Parcel)) → (P → Call → P → Type 0)
-    → (P → Text → Type 0) → Type 0
-StoppedNodesStay {D} {P} is_kept history failures_of given offered does vouches =
+abbrev pub StoppedNodesStay : {D P : Type 0} → Disk D
+    → Port P → Type 0
+StoppedNodesStay {D} {P} disk port =
     (handed : Handed) (old new : SoloState D P) (answer : Outcome)
     → old.node.node.stopped ≡ true
-    → IsTurn is_kept history failures_of given offered does vouches handed old new answer
-    → HasOnlyAsked given does vouches handed old new answer
+    → IsTurn disk port handed old new answer
+    → HasOnlyAsked port handed old new answer

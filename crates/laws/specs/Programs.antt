@@ -1,19 +1,18 @@
 -- Programs on hosts of their own: what each `dpbn node` and `dpbn build` does, one thing after the
 -- other, and the files of their logs.
-use Rattle.std.specs.Prelude.{◌≡◌, ℕ, List, [], ◌∷◌, None, Some, length, replicate, slice_get, slice_set}
+use Rattle.std.specs.Prelude.{◌≡◌, ℕ, List, [], ◌∷◌, Some, length, replicate, slice_get, slice_set}
 use Rattle.std.specs.declared.rt.LibcRuntime.{LibcRuntime}
-use Rattle.dpbn_node.specs.Runs.{IsOpenedOn, Running, port_vouches}
+use Rattle.dpbn_node.specs.Runs.{IsOpenedOn, Running, file_disk, udp_port}
 use Rattle.faults.specs.Bytes.{Text}
 use Rattle.laws.specs.OnHosts.{HasOffered, TookOffered}
 use Rattle.laws.specs.Reopening.{MayBeLeft}
 use Rattle.listing.specs.Tree.{Tree}
 use Rattle.lone_node.specs.Handed.{Handed}
 use Rattle.lone_node.specs.Turns.{IsTurn, Outcome, TurnsLead}
-use Rattle.stable_record.specs.Crash.{MayLeave}
+use Rattle.stable_record.specs.Crash.{Leaves, MayLeave}
 use Rattle.stable_record.specs.History.{seen}
 use Rattle.stable_record.specs.RealFile.{file_agrees, file_history}
 use Rattle.stable_record.specs.declared.file_disk.FileDisk.{FileDisk}
-use Rattle.udp.specs.Calls.{DoesOverUdp}
 use Rattle.udp.specs.declared.udp_port.UdpPort.{UdpPort}
 
 -- ---- state
@@ -37,22 +36,16 @@ at_first weights = record { places = replicate (length weights) (Rests []); offe
 
 -- A turn of a program, as the contracts of `dpbn node` and `dpbn build` have it.
 abbrev pub IsProgramTurn : Handed → Running → Running → Outcome → Type 0
-IsProgramTurn =
-    IsTurn file_agrees file_history (λ (disk : FileDisk). disk.failures)
-    (λ (port : UdpPort LibcRuntime). None) (λ port. None) DoesOverUdp port_vouches
+IsProgramTurn = IsTurn file_disk udp_port
 
 -- If a program's turn took bytes, they were offered before.
 abbrev pub HeardOffered : (handed : Handed) (old new : Running) (answer : Outcome)
     → IsProgramTurn handed old new answer → List Text → Type 0
-HeardOffered =
-    TookOffered file_agrees file_history (λ (disk : FileDisk). disk.failures)
-    (λ (port : UdpPort LibcRuntime). None) (λ port. None) DoesOverUdp port_vouches
+HeardOffered = TookOffered file_disk udp_port
 
 -- Turns of `dpbn node`, one after the other, as its contract has them.
 abbrev pub ProgramTurnsLead : Handed → Running → List Outcome → Running → Type 0
-ProgramTurnsLead =
-    TurnsLead file_agrees file_history (λ (disk : FileDisk). disk.failures)
-    (λ (port : UdpPort LibcRuntime). None) (λ port. None) DoesOverUdp port_vouches
+ProgramTurnsLead = TurnsLead file_disk udp_port
 
 -- The member's node was opened on its own log, whose file was as it had been left. So far the file
 -- did what its history says.
@@ -74,8 +67,8 @@ pub record HasStarted (tree : Tree) (weights : List ℕ) (old new : Programs) : 
   pub places : new.places ≡ slice_set old.places number (Runs state)
   pub offered : new.offered ≡ old.offered
 
--- Between two turns only a program's port changed: it was told how long to wait, or it handed what
--- was queued to the system.
+-- Between two turns only a program's port changed: notices of failed builds came or left, its wait
+-- was set, or it handed what was queued to the system.
 pub record HasWaited (old new : Programs) : Type 0 where
   pub number : ℕ
   pub state : Running
@@ -128,8 +121,22 @@ pub record WasKilled (old new : Programs) : Type 0 where
   pub places : new.places ≡ slice_set old.places number (Rests file)
   pub offered : new.offered ≡ old.offered
 
+-- A program was killed while it started, before its first turn. The disk had all of the log's file
+-- when the program began. The file was left as a crash at some moment of the opening may leave it.
+pub record WasKilledInStart (tree : Tree) (weights : List ℕ) (old new : Programs) : Type 0 where
+  pub number : ℕ
+  pub file : Text
+  pub rests : slice_get old.places number ≡ Some (Rests file)
+  pub state : Running
+  pub opens : OpensOwnLog tree weights number file state
+  pub on_disk : Leaves (λ c. c ≡ file) (file_history opens.log)
+  pub new_file : Text
+  pub left : MayBeLeft (file_history opens.log) (file_history state.node.log.disk) new_file
+  pub places : new.places ≡ slice_set old.places number (Rests new_file)
+  pub offered : new.offered ≡ old.offered
+
 -- All programs run over one tree and the same weights, and these things happened, one after the
--- other. Turns of programs that run at the same time stand in the order in which they end: what a
+-- other. Turns of programs that run at the same time are put in the order in which they end: what a
 -- turn offers to other nodes doesn't leave its port before that.
 pub data HaveRun (tree : Tree) (weights : List ℕ) (first : Programs) : Programs → Type 0 where
   nothing_yet : HaveRun tree weights first first
@@ -142,6 +149,9 @@ pub data HaveRun (tree : Tree) (weights : List ℕ) (first : Programs) : Program
   ended : (p q : Programs) → HaveRun tree weights first p → HasEnded p q
       → HaveRun tree weights first q
   killed : (p q : Programs) → HaveRun tree weights first p → WasKilled p q
+      → HaveRun tree weights first q
+  killed_in_start : (p q : Programs) → HaveRun tree weights first p
+      → WasKilledInStart tree weights p q
       → HaveRun tree weights first q
 
 -- ---- the turns that a program takes, and what others do in between

@@ -1,5 +1,5 @@
--- What a turn of crate `solo` does to its host.
-use Rattle.std.specs.Prelude.{◌≡◌, ◌⊎◌, true, List, Option, Err}
+-- What a turn of crate `lone_node` does to its host.
+use Rattle.std.specs.Prelude.{◌≡◌, ◌⊎◌, true, List, Err}
 use Rattle.turn_rules.specs.declared.fault.TurnFault.{TurnFault}
 use Rattle.turn_rules.specs.declared.fault.TurnFault.TheVariants.{Memory, Node, Down, NotSent, NotFresh}
 use Rattle.faults.specs.Bytes.{Text}
@@ -9,19 +9,20 @@ use Rattle.node.specs.Parcels.{datagrams_to}
 use Rattle.node.specs.Step.{Asked, Taken, Takes, after}
 use Rattle.node.specs.declared.fault.NodeFault.{NodeFault}
 use Rattle.turn_rules.specs.Offered.{parcels_from}
-use Rattle.datagram_ports.specs.Kept.{GoesOnBy, Parcel}
+use Rattle.datagram_ports.specs.Kept.{GoesOnBy}
 use Rattle.lone_node.specs.State.{SoloState, me_of}
+use Rattle.datagram_ports.specs.declared.port.Port.{Ghosts as Port}
 
 -- The turn took a step that the node may take if bytes it takes were offered before. The port was
 -- offered just what the step sends, as far as it records this.
-pub record IsStepTaken {D P : Type 0} (offered : P → Option (List Parcel)) (old new : SoloState D P)
+pub record IsStepTaken {D P : Type 0} (port : Port P) (old new : SoloState D P)
     (asked : Asked) : Type 0 where
   pub taken : Taken
   pub step : (before : List Text) → WasOffered before asked
       → TakesStep before old.node.node asked taken
   pub node : new.node.node ≡ after old.node.node taken
   pub offers : GoesOnBy (parcels_from (me_of old) (datagrams_to taken.answer.sends))
-      (offered old.port) (offered new.port)
+      (port.offered old.port) (port.offered new.port)
 
 -- The node refused what the turn asked of it, and is left in the state after that refusal.
 pub record IsRefusal {D P : Type 0} (old new : SoloState D P) (f : NodeFault) : Type 0 where

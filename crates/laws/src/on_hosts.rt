@@ -10,25 +10,24 @@ use stable_record::Disk;
 /// offered before. The turn is a step whose sends were offered, a refusal, the node's end if its
 /// device failed, or nothing. So `lone_nodes_make_a_world` covers any list of turns.
 pub fn turns_are_of_a_run<D: Disk, P: Port>()
-    ensures { TurnsAreOfARun D.is_kept D.history D.failures_of P.given P.offered P.does P.vouches }
+    ensures { TurnsAreOfARun D.Disk P.Port }
 {}
 
 /// Law: this also holds if all that the node's port vouched for, as the turn's receive left it, was
 /// offered before.
 pub fn vouched_turns_are_of_a_run<D: Disk, P: Port>()
-    ensures { VouchedTurnsAreOfARun D.is_kept D.history D.failures_of P.given P.offered P.does
-        P.vouches }
+    ensures { VouchedTurnsAreOfARun D.Disk P.Port }
 {}
 
 /// Law: a turn of a stopped node takes no step, leaves the node as it was, and offers nothing. So
 /// its host stays as it is, however many turns a program takes.
 pub fn stopped_nodes_stay<D: Disk, P: Port>()
-    ensures { StoppedNodesStay D.is_kept D.history D.failures_of P.given P.offered P.does
-        P.vouches }
+    ensures { StoppedNodesStay D.Disk P.Port }
 {}
 
 /// Law: a crash at any moment of such a turn leaves a log that opens with the notes from before, or
-/// with these and that of the step. `turn_then_open` has this of `Solo::turn` by a call.
+/// with these and that of the step. `turn_then_open` has this of `Solo::turn_with` by a
+/// call.
 pub fn turns_leave_logs<D: Disk, P: Port>()
-    ensures { TurnsLeaveLogs D.is_kept D.history D.failures_of P.given P.offered P.does P.vouches }
+    ensures { TurnsLeaveLogs D.Disk P.Port }
 {}

@@ -1,8 +1,9 @@
 //! A port with a record of what is offered to it.
 ghost use Rattle.std.specs.Prelude.{◌≡◌, [], Some, length, option_map, true};
+ghost use Rattle.datagram_ports.specs.Granted.{IsGranted};
 ghost use Rattle.laws.specs.Recorded.{IsAmongFirst, IsRecorded, offered_to};
 
-use datagram_ports::{MemPort, Port, PortFault};
+use datagram_ports::{MemPort, Port, PortFault, Warrant};
 use std::alloc::Global;
 
 /// A port that also records what is offered to it. What it receives is what the port receives.
@@ -72,8 +73,15 @@ impl<P: Port> Port for Recorded<P> {
 
     ghost vouches = { λ r text. P.vouches r.port text };
 
+    ghost may_send = { λ r text. P.may_send r.port text × IsGranted r.sends.granted text };
+
     fn receive(&mut self) -> Result<Option<(u8, Vec<u8>)>, PortFault> {
         self.port.receive()
+    }
+
+    fn grant<W: Warrant>(&mut self, warrant: &W, bytes: &[u8]) {
+        self.sends.grant(warrant, bytes);
+        self.port.grant(warrant, bytes);
     }
 
     fn send(&mut self, from: u8, to: u8, bytes: &[u8]) -> Result<(), PortFault> {

@@ -29,7 +29,7 @@ pub fn open_turn_open<'a, D: Disk, P: Port, E: Disk>(
     me: u8,
 ) -> Option<(Solo<'a, D, P>, Node<'a, E>)>
     requires { me < length weights.now }
-    ensures { IfSome result (λ r. ComesBack D.is_kept D.history E.is_kept E.history
+    ensures { IfSome result (λ r. ComesBack D.Disk E.Disk
         tree.entry.now weights.now me disk left r.0 r.1) }
 {
     let Ok(node) = Node::open(alloc, disk, tree, weights, me) else {

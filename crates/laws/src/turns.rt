@@ -25,9 +25,9 @@ pub fn turn_on_host<D: Disk, P: Port>(
     initiative: Initiative,
 ) -> Result<Option<Act>, TurnFault>
     ensures turned { IfOk result (λ o. IfSome o
-        (λ act. IsStepTaken P.offered solo.old solo.new (asked_by act))) }
+        (λ act. IsStepTaken P.Port solo.old solo.new (asked_by act))) }
     ensures nothing { IfOk result (λ o. IfNone o
-        (IsChosen P.given P.does P.vouches solo.old solo.new
+        (IsChosen P.Port solo.old solo.new
         (handed (option_map (λ b. b.now) made.entry) initiative) [] None)) }
     ensures stayed { IfOk result (λ o. IfNone o (solo.new.node ≡ solo.old.node)) }
     ensures refused { IfErr result (IsRefusedTurn solo.old solo.new) }

@@ -5,10 +5,9 @@ use Rattle.std.specs.Prelude.{is_some}
 use Rattle.turn_rules.proofs.SomeOwn.{some_choice}
 use Rattle.turn_rules.specs.Choice.{Chosen, Here, IsFirstDone, IsGivenOr, Made, Who, comes_to, first_answer, in_turn}
 use Rattle.faults.specs.Answers.{option_or}
-use Rattle.faults.specs.Bytes.{Text}
 use Rattle.node.specs.Step.{Asked}
 use Rattle.turn_rules.specs.Calls.{came_by}
-use Rattle.datagram_ports.specs.Calls.{Call, WentThrough}
+use Rattle.datagram_ports.specs.Calls.{WentThrough}
 use Rattle.datagram_ports.specs.Kept.{Arrived, GoesOnBy}
 use Rattle.protocol.specs.Member.{IsMember}
 use Rattle.protocol.specs.State.{State}
@@ -16,6 +15,7 @@ use Rattle.lone_node.specs.Handed.{Handed, IsChoiceBy}
 use Rattle.lone_node.specs.State.{SoloState, only}
 use Rattle.lone_node.specs.Turn.{IsChosen, IsVouchedFor, looked_for, received_by}
 use Rattle.lone_node.specs.inside.Turning.{HasCome}
+use Rattle.datagram_ports.specs.declared.port.Port.{Ghosts as Port}
 
 -- a record continues by nothing
 pub goes_nowhere : {X : Type 0} (o : Option (List X)) → GoesOnBy [] o o
@@ -39,8 +39,7 @@ goes_no_more more a None (Some zs) goes nothing = absurd nothing
 goes_no_more more None (Some ys) (Some zs) goes nothing = absurd goes
 goes_no_more more (Some xs) (Some ys) (Some zs) goes nothing = nothing ∙ append-nil ys ∙ goes
 
-module _ {D P : Type 0} (given : P → Option (List Arrived)) (does : P → Call → P → Type 0)
-    (vouches : P → Text → Type 0) (old new : SoloState D P) (handed : Handed) where
+module _ {D P : Type 0} (port : Port P) (old new : SoloState D P) (handed : Handed) where
   abbrev pub here : Here
   here = only old.node.node
 
@@ -65,19 +64,19 @@ module _ {D P : Type 0} (given : P → Option (List Arrived)) (does : P → Call
 
   -- It is the choice, and nothing was offered yet.
   abbrev pub Chooses : Chosen → Type 0
-  Chooses = IsChosen given does vouches old new handed []
+  Chooses = IsChosen port old new handed []
 
   -- the answer to a job
   pub by_answer : (x : ℕ × Asked) → answer_here ≡ Some x → new.port ≡ old.port
       → Chooses (Some x)
   by_answer x job still = record {
     answer = Ok None;
-    looked = subst (λ b. GoesOnBy (looked_for b None) (given old.port) (given new.port))
+    looked = subst (λ b. GoesOnBy (looked_for b None) (port.given old.port) (port.given new.port))
         (sym (ap is_some job))
-        (subst (λ p. GoesOnBy [] (given old.port) (given p)) (sym still)
-        (goes_nowhere (given old.port)));
+        (subst (λ p. GoesOnBy [] (port.given old.port) (port.given p)) (sym still)
+        (goes_nowhere (port.given old.port)));
     between = old.port;
-    received = subst (λ b. WentThrough does old.port (received_by b (Ok None)) old.port)
+    received = subst (λ b. WentThrough port.does old.port (received_by b (Ok None)) old.port)
         (sym (ap is_some job)) refl;
     sent = ([], refl, still);
     vouched = tt;
@@ -86,20 +85,20 @@ module _ {D P : Type 0} (given : P → Option (List Arrived)) (does : P → Call
   }
 
   module _ (no_answer : answer_here ≡ None) (came : Arrived)
-      (goes : HasCome given does vouches old.port new.port came) where
+      (goes : HasCome port old.port new.port came) where
     -- the choice if this was received
     by_came : (c : Chosen) → IsChoiceBy handed here count old.pending came c → Chooses c
     by_came c choice = record {
       answer = goes.answer;
-      looked = subst (λ b. GoesOnBy (looked_for b (came_by goes.answer)) (given old.port)
-          (given new.port)) (sym (ap is_some no_answer))
-          (subst (λ a. GoesOnBy (a ∷ []) (given old.port) (given new.port)) (sym goes.gave)
+      looked = subst (λ b. GoesOnBy (looked_for b (came_by goes.answer)) (port.given old.port)
+          (port.given new.port)) (sym (ap is_some no_answer))
+          (subst (λ a. GoesOnBy (a ∷ []) (port.given old.port) (port.given new.port)) (sym goes.gave)
           goes.kept);
       between = new.port;
-      received = subst (λ b. WentThrough does old.port (received_by b goes.answer) new.port)
+      received = subst (λ b. WentThrough port.does old.port (received_by b goes.answer) new.port)
           (sym (ap is_some no_answer)) (new.port, goes.call, refl);
       sent = ([], refl, refl);
-      vouched = subst (IsVouchedFor vouches new.port) (sym goes.gave) goes.vouched;
+      vouched = subst (IsVouchedFor port new.port) (sym goes.gave) goes.vouched;
       choice = subst (λ a. IsChoiceBy handed here count old.pending a c) (sym goes.gave) choice;
     }
 

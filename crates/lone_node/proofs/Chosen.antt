@@ -1,5 +1,5 @@
 -- What was chosen is prepared, or there is a reason why it isn't.
-use Rattle.std.proofs.Common.{◌≡◌, ◌≢◌, ◌==◌, ℕ, Bool, true, false, List, [], Option, None, Some, Result, Ok, Err, IfErr, IfOk, Vec, length, if◌then◌else◌, refl, sym, ap, subst, ◌∙◌, inl, inr}
+use Rattle.std.proofs.Common.{◌≡◌, ◌≢◌, ◌==◌, ℕ, Bool, true, false, [], Option, None, Some, Result, Ok, Err, IfErr, IfOk, Vec, length, if◌then◌else◌, refl, sym, ap, subst, ◌∙◌, inl, inr}
 use Rattle.std.specs.List.{range_with_len}
 use Rattle.std.specs.Prelude.{option_and_then, option_map}
 use Rattle.std.specs.declared.alloc.Global.{Global}
@@ -7,7 +7,6 @@ use Rattle.turn_rules.specs.Answering.{answer_if}
 use Rattle.turn_rules.specs.Choice.{Chosen, IsDoneIf, comes_to, in_turn}
 use Rattle.turn_rules.specs.declared.fault.TurnFault.{TurnFault}
 use Rattle.turn_rules.specs.declared.fault.TurnFault.TheVariants as refused
-use Rattle.faults.specs.Bytes.{Text}
 use Rattle.node.specs.Calls.{left_by}
 use Rattle.node.specs.State.{LoggedNode, NodeState}
 use Rattle.node.specs.Step.{Comes, Does}
@@ -15,7 +14,6 @@ use Rattle.node.specs.declared.fault.NodeFault.{NodeFault}
 use Rattle.node.specs.declared.fault.NodeFault.TheVariants as fault
 use Rattle.turn_rules.specs.CausedSteps.{IsNoPart, IsPart}
 use Rattle.turn_rules.specs.declared.caused_step.CausedStep.{CausedStep}
-use Rattle.datagram_ports.specs.Calls.{Call}
 use Rattle.datagram_ports.specs.Kept.{Arrived}
 use Rattle.protocol.specs.Given.{Given}
 use Rattle.protocol.specs.Member.{IsMember}
@@ -30,6 +28,7 @@ use Rattle.lone_node.specs.Handed.{Handed}
 use Rattle.lone_node.specs.State.{SoloState, member_up, only}
 use Rattle.lone_node.specs.Turn.{IsChosen}
 use Rattle.lone_node.specs.inside.Turning.{HasChosen, HasCome, IsMade, IsNotTaken, told}
+use Rattle.datagram_ports.specs.declared.port.Port.{Ghosts as Port}
 
 -- the node here has a valid member
 pub members_here : (n : NodeState) → IsMember n.member → (k : ℕ) (s : State) → only n k ≡ Some s
@@ -75,8 +74,7 @@ module _ {D : Type 0} (m n : LoggedNode D) (stays : m ≡ n) (new : LoggedNode D
       subst (IsNotTaken n new (comes_to (only n.node) came)) (sym same)
       (subst (λ x. IsNotTaken x new (comes_to (only x.node) came) f) stays refuses)
 
-module _ {D P : Type 0} (given : P → Option (List Arrived)) (does : P → Call → P → Type 0)
-    (vouches : P → Text → Type 0) (old new : SoloState D P) (handed : Handed)
+module _ {D P : Type 0} (port : Port P) (old new : SoloState D P) (handed : Handed)
     (is : IsMember old.node.node.member) where
   abbrev n : NodeState
   n = old.node.node
@@ -88,10 +86,10 @@ module _ {D P : Type 0} (given : P → Option (List Arrived)) (does : P → Call
   count = length n.member.weights
 
   abbrev HasMade : Option CausedStep → Type 0
-  HasMade = HasChosen given does vouches old new handed
+  HasMade = HasChosen port old new handed
 
   abbrev IsFault : TurnFault → Type 0
-  IsFault = IsTurnFault given does vouches old new handed (λ asked. ⊥)
+  IsFault = IsTurnFault port old new handed (λ asked. ⊥)
 
   -- its answer, if it is up and its files are made
   abbrev Answer : Option Input
@@ -99,7 +97,7 @@ module _ {D P : Type 0} (given : P → Option (List Arrived)) (does : P → Call
 
   -- the first answer
   abbrev First : Chosen
-  First = answer_here given does vouches old new handed
+  First = answer_here port old new handed
 
   -- ---- its job
 
@@ -116,7 +114,7 @@ module _ {D P : Type 0} (given : P → Option (List Arrived)) (does : P → Call
       by None e part = absurd part
       by (Some input) e part = record {
         chosen = Some (me, Does input);
-        is_chosen = by_answer given does vouches old new handed (me, Does input) (first_is input e) still;
+        is_chosen = by_answer port old new handed (me, Does input) (first_is input e) still;
         made = (refl, part);
         same = same;
       }
@@ -130,7 +128,7 @@ module _ {D P : Type 0} (given : P → Option (List Arrived)) (does : P → Call
       by None e = absurd (some e)
       by (Some input) e = (
         Some (me, Does input),
-        by_answer given does vouches old new handed (me, Does input) (first_is input e) still,
+        by_answer port old new handed (me, Does input) (first_is input e) still,
         same,
       )
 
@@ -144,11 +142,11 @@ module _ {D P : Type 0} (given : P → Option (List Arrived)) (does : P → Call
       by (Some input) e part = absurd part
 
   module _ (none : IsPart old.node (Answer) None) (came : Arrived)
-      (goes : HasCome given does vouches old.port new.port came) where
+      (goes : HasCome port old.port new.port came) where
     -- memory ran out, whatever the choice was
     wants : new.node.node ≡ old.node.node → (f : TurnFault) → f ≡ refused.Memory → IsFault f
     wants same f memory =
-        let some = by_some given does vouches old new handed (no_answer none) came goes
+        let some = by_some port old new handed (no_answer none) came goes
         (members_here n is) in
         subst IsFault (sym memory) (some.0, some.1, same)
 
@@ -163,7 +161,7 @@ module _ {D P : Type 0} (given : P → Option (List Arrived)) (does : P → Call
         by None e made = absurd made
         by (Some x) e made = record {
           chosen = Some x;
-          is_chosen = by_arrival given does vouches old new handed (no_answer none) came goes x e;
+          is_chosen = by_arrival port old new handed (no_answer none) came goes x e;
           made = made;
           same = same;
         }
@@ -176,7 +174,7 @@ module _ {D P : Type 0} (given : P → Option (List Arrived)) (does : P → Call
         | inl memory ↦ no_memory memory
         | inr node ↦ subst IsFault (sym (t.tells ∙ node)) (
           Comes t.text,
-          by_arrival given does vouches old new handed (no_answer none) came goes (me, Comes t.text) t.comes,
+          by_arrival port old new handed (no_answer none) came goes (me, Comes t.text) t.comes,
           record { cause = inl takes; leaves = t.leaves },
         )
       ]
@@ -195,9 +193,9 @@ module _ {D P : Type 0} (given : P → Option (List Arrived)) (does : P → Call
           IsDoneIf (only n) count old.pending (λ k. handed.initiative) me (member_up n) done
 
       done_chosen : (input : Input) → DoesSo (Some input)
-          → IsChosen given does vouches old new handed [] (Some (me, Does input))
+          → IsChosen port old new handed [] (Some (me, Does input))
       done_chosen input done =
-          by_done given does vouches old new handed (no_answer none) came goes
+          by_done port old new handed (no_answer none) came goes
           (Some (me, Does input)) (nothing_taken old.node (comes_to (only n) came) nothing)
           (this_one_does n count old.pending (λ k. handed.initiative) input done
           (in_turn old.pending.next count)
@@ -207,7 +205,7 @@ module _ {D P : Type 0} (given : P → Option (List Arrived)) (does : P → Call
           → ((done : Option Input) × DoesSo done × IsPart old.node done o) → HasMade o
       done_made same None (None, done, part) = record {
         chosen = None;
-        is_chosen = by_done given does vouches old new handed (no_answer none) came goes None
+        is_chosen = by_done port old new handed (no_answer none) came goes None
             (nothing_taken old.node (comes_to (only n) came) nothing)
             (none_does n count old.pending (λ k. handed.initiative) done
             (in_turn old.pending.next count));

@@ -10,7 +10,7 @@ use Rattle.faults.specs.Answers.{first_given, option_or}
 use Rattle.faults.specs.Bytes.{Text}
 use Rattle.node.specs.Step.{Asked, Comes, Does}
 use Rattle.turn_rules.specs.Calls.{came_by}
-use Rattle.datagram_ports.specs.Calls.{Call, Received, told}
+use Rattle.datagram_ports.specs.Calls.{Received, told}
 use Rattle.datagram_ports.specs.Kept.{Arrived, GoesOnBy, Parcel, arrived}
 use Rattle.datagram_ports.specs.declared.fault.PortFault.{PortFault}
 use Rattle.protocol.specs.State.{State}
@@ -19,6 +19,7 @@ use Rattle.lone_node.specs.Handed.{Handed, IsChoiceBy}
 use Rattle.lone_node.specs.State.{SoloState, me_of, only}
 use Rattle.lone_node.specs.Turn.{IsChosen, IsHeard, IsVouchedFor}
 use Rattle.lone_node.specs.inside.Turning.{HasCome}
+use Rattle.datagram_ports.specs.declared.port.Port.{Ghosts as Port}
 
 -- ---- what a receive returned
 
@@ -31,18 +32,17 @@ came_is (Ok None) = refl
 came_is (Ok (Some d)) = refl
 came_is (Err f) = refl
 
-module _ {P : Type 0} (given : P → Option (List Arrived)) (does : P → Call → P → Type 0)
-    (vouches : P → Text → Type 0) (old new : P) where
-  vouched_is : (r : Answer) → IfOk r (λ o. IfSome o (λ d. vouches new d.1.items))
-      → IsVouchedFor vouches new (arrived r)
+module _ {P : Type 0} (port : Port P) (old new : P) where
+  vouched_is : (r : Answer) → IfOk r (λ o. IfSome o (λ d. port.vouches new d.1.items))
+      → IsVouchedFor port new (arrived r)
   vouched_is (Ok None) is = tt
   vouched_is (Ok (Some d)) is = is
   vouched_is (Err f) is = tt
 
-  come_by : (r : Answer) → GoesOnBy (arrived r ∷ []) (given old) (given new)
-      → does old (Received (told r)) new
-      → IfOk r (λ o. IfSome o (λ d. vouches new d.1.items))
-      → HasCome given does vouches old new (arrived r)
+  come_by : (r : Answer) → GoesOnBy (arrived r ∷ []) (port.given old) (port.given new)
+      → port.does old (Received (told r)) new
+      → IfOk r (λ o. IfSome o (λ d. port.vouches new d.1.items))
+      → HasCome port old new (arrived r)
   come_by r goes done vouched = record {
     answer = told r;
     gave = came_is r;
@@ -53,9 +53,9 @@ module _ {P : Type 0} (given : P → Option (List Arrived)) (does : P → Call �
 
   -- it succeeded
   pub has_come : (r : Answer) (o : Option (ℕ × Vec ℕ Global)) → r ≡ Ok o
-      → GoesOnBy (arrived r ∷ []) (given old) (given new) → does old (Received (told r)) new
-      → IfOk r (λ o. IfSome o (λ d. vouches new d.1.items))
-      → HasCome given does vouches old new (option_map (λ d. (d.0, d.1.items)) o)
+      → GoesOnBy (arrived r ∷ []) (port.given old) (port.given new) → port.does old (Received (told r)) new
+      → IfOk r (λ o. IfSome o (λ d. port.vouches new d.1.items))
+      → HasCome port old new (option_map (λ d. (d.0, d.1.items)) o)
   has_come (Ok None) None is goes done vouched = come_by (Ok None) goes done vouched
   has_come (Ok None) (Some d) is goes done vouched =
       absurd (let no : ◌≡◌ {A = Answer} (Ok None) (Ok (Some d)) = is in cc)
@@ -64,15 +64,15 @@ module _ {P : Type 0} (given : P → Option (List Arrived)) (does : P → Call �
   has_come (Ok (Some d)) (Some e) is goes done vouched =
       let known : ◌≡◌ {A = Answer} (Ok (Some d)) (Ok (Some e)) = is in
       let same : d ≡ e = cc in
-      subst (λ x. HasCome given does vouches old new (Some (x.0, x.1.items))) same
+      subst (λ x. HasCome port old new (Some (x.0, x.1.items))) same
       (come_by (Ok (Some d)) goes done vouched)
   has_come (Err f) o is goes done vouched =
       absurd (let no : ◌≡◌ {A = Answer} (Err f) (Ok o) = is in cc)
 
   -- it failed
   pub none_came : (r : Answer) (f : PortFault) → r ≡ Err f
-      → GoesOnBy (arrived r ∷ []) (given old) (given new) → does old (Received (told r)) new
-      → HasCome given does vouches old new None
+      → GoesOnBy (arrived r ∷ []) (port.given old) (port.given new) → port.does old (Received (told r)) new
+      → HasCome port old new None
   none_came (Ok o) f is goes done =
       absurd (let no : ◌≡◌ {A = Answer} (Ok o) (Err f) = is in cc)
   none_came (Err g) f is goes done = come_by (Err g) goes done tt
@@ -85,12 +85,11 @@ FromCame came (Comes text) = (k : ℕ) × (came ≡ Some (k, text))
 FromCame came (Does input) = Prim.Unit {0}
 
 -- so the port vouches for them
-pub is_heard : {P : Type 0} (vouches : P → Text → Type 0) (port : P) (came : Arrived)
-    (asked : Asked) → FromCame came asked → IsVouchedFor vouches port came
-    → IsHeard vouches port asked
-is_heard vouches port came (Comes text) (k, is) vouched =
-    subst (IsVouchedFor vouches port) is vouched
-is_heard vouches port came (Does input) is vouched = tt
+pub is_heard : {P : Type 0} (port : Port P) (state : P) (came : Arrived) (asked : Asked)
+    → FromCame came asked → IsVouchedFor port state came → IsHeard port state asked
+is_heard port state came (Comes text) (k, is) vouched =
+    subst (IsVouchedFor port state) is vouched
+is_heard port state came (Does input) is vouched = tt
 
 module _ (here : Here) (came : Arrived) where
   -- what the first of these gives is an input of the node's own
@@ -157,13 +156,12 @@ module _ (here : Here) (came : Arrived) where
           (subst (λ z. first_answer here count made ≡ Some z) (sym same) job)
 
 -- the port vouched for bytes that a turn chooses, as the receive left it
-pub choice_heard : {D P : Type 0} (given : P → Option (List Arrived))
-    (does : P → Call → P → Type 0) (vouches : P → Text → Type 0) (old new : SoloState D P)
+pub choice_heard : {D P : Type 0} (port : Port P) (old new : SoloState D P)
     (handed : Handed) (parcels : List Parcel) (chosen : Chosen)
-    (is : IsChosen given does vouches old new handed parcels chosen) (asked : Asked)
-    → chosen ≡ Some (me_of old, asked) → IsHeard vouches is.between asked
-choice_heard given does vouches old new handed parcels chosen is asked same =
-    is_heard vouches is.between (came_by is.answer) asked
+    (is : IsChosen port old new handed parcels chosen) (asked : Asked)
+    → chosen ≡ Some (me_of old, asked) → IsHeard port is.between asked
+choice_heard port old new handed parcels chosen is asked same =
+    is_heard port is.between (came_by is.answer) asked
     (from_came (only old.node.node) (came_by is.answer)
     (length old.node.node.member.weights) old.pending (λ k. handed.made)
     (λ k. handed.initiative) (me_of old, asked)

@@ -1,22 +1,20 @@
 -- The log after a turn that was refused before its step was taken.
-use Rattle.std.proofs.Common.{◌≡◌, List, Option, refl, sym, ap, subst, ◌∙◌}
+use Rattle.std.proofs.Common.{◌≡◌, refl, sym, ap, subst, ◌∙◌}
 use Rattle.turn_rules.specs.declared.fault.TurnFault.{TurnFault}
 use Rattle.turn_rules.specs.declared.fault.TurnFault.TheVariants as refused
-use Rattle.faults.specs.Bytes.{Text}
 use Rattle.node.specs.Calls.{left_by}
 use Rattle.node.specs.OnLog.{IsOnLog, identity_of, texts_of}
 use Rattle.node.specs.State.{LoggedNode, NodeState}
 use Rattle.node.specs.Step.{Asked}
 use Rattle.node.specs.declared.fault.NodeFault.{NodeFault}
 use Rattle.node.specs.declared.fault.NodeFault.TheVariants as fault
-use Rattle.datagram_ports.specs.Calls.{Call}
-use Rattle.datagram_ports.specs.Kept.{Arrived}
 use Rattle.lone_node.specs.Handed.{Handed}
 use Rattle.lone_node.specs.Faults.{IsTurnFault}
 use Rattle.lone_node.specs.State.{SoloState}
 use Rattle.stable_record.specs.History.{History}
 use Rattle.stable_record.specs.OpenLog.{Holds}
 use Rattle.stable_record.specs.declared.log_fault.LogFault.TheVariants as log
+use Rattle.datagram_ports.specs.declared.port.Port.{Ghosts as Port}
 
 -- Both nodes have the same member and notes.
 pub record IsAlike (n m : NodeState) : Type 0 where
@@ -42,9 +40,8 @@ left_is n asked (fault.Log log.OtherCluster) = record { member = refl; notes = r
 left_is n asked fault.Stopped = record { member = refl; notes = refl }
 left_is n asked (fault.Foreign f) = record { member = refl; notes = refl }
 
-module _ {D P : Type 0} (given : P → Option (List Arrived)) (does : P → Call → P → Type 0)
-    (vouches : P → Text → Type 0) (old new : SoloState D P) (handed : Handed) where
-  pub alike : (f : TurnFault) → IsTurnFault given does vouches old new handed (λ asked. ⊥) f
+module _ {D P : Type 0} (port : Port P) (old new : SoloState D P) (handed : Handed) where
+  pub alike : (f : TurnFault) → IsTurnFault port old new handed (λ asked. ⊥) f
       → IsAlike old.node.node new.node.node
   alike refused.Memory (chosen, is_chosen, same) = same_is old.node.node new.node.node same
   alike (refused.Node f) (asked, is_chosen, r) =

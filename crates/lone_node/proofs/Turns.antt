@@ -1,25 +1,22 @@
 -- Sequences of turns.
-use Rattle.std.proofs.Common.{◌+◌, ◌++◌, ◌∙◌, ℕ, List, [], ◌∷◌, Option, refl, ap, subst, length-append}
-use Rattle.faults.specs.Bytes.{Text}
-use Rattle.datagram_ports.specs.Calls.{Call}
-use Rattle.datagram_ports.specs.Kept.{Arrived, Parcel}
+use Rattle.std.proofs.Common.{◌+◌, ◌++◌, ◌∙◌, ℕ, List, [], ◌∷◌, refl, ap, subst, length-append}
 use Rattle.lone_node.specs.Handed.{Handed}
 use Rattle.lone_node.specs.State.{SoloState}
 use Rattle.lone_node.specs.Turns.{HaveTurned, IsTurn, Outcome, TurnsLead}
-use Rattle.stable_record.specs.History.{History}
+use Rattle.stable_record.specs.declared.disk.Disk.{Ghosts as Disk}
+use Rattle.datagram_ports.specs.declared.port.Port.{Ghosts as Port}
 
-module _ {D P : Type 0} (is_kept : D → Type 0) (history : D → History) (failures_of : D → ℕ)
-    (given : P → Option (List Arrived)) (offered : P → Option (List Parcel))
-    (does : P → Call → P → Type 0) (vouches : P → Text → Type 0) (handed : Handed)
+module _ {D P : Type 0} (disk : Disk D)
+    (port : Port P) (handed : Handed)
   where
     abbrev Turn : SoloState D P → SoloState D P → Outcome → Type 0
-    Turn = IsTurn is_kept history failures_of given offered does vouches handed
+    Turn = IsTurn disk port handed
 
     abbrev Lead : SoloState D P → List Outcome → SoloState D P → Type 0
-    Lead = TurnsLead is_kept history failures_of given offered does vouches handed
+    Lead = TurnsLead disk port handed
 
     abbrev Have : ℕ → SoloState D P → SoloState D P → Type 0
-    Have = HaveTurned is_kept history failures_of given offered does vouches handed
+    Have = HaveTurned disk port handed
 
     -- one more turn at the end
     pub TurnsLead-append : (old between new : SoloState D P) (answers : List Outcome)

@@ -65,10 +65,10 @@ pub(crate) fn choose<D: Disk, P: Port>(
     ensures logged { IsLogged node.old }
     ensures log { node.new.log ≡ node.old.log }
     ensures offered { GoesOnBy [] (P.offered port.old) (P.offered port.new) }
-    ensures chosen { IfOk result (HasChosen P.given P.does P.vouches
+    ensures chosen { IfOk result (HasChosen P.Port
         (solo_of node.old pending.now port.old) (solo_of node.new pending.now port.new)
         (handed (option_map (λ b. b.now) made.entry) initiative)) }
-    ensures refused { IfErr result (IsTurnFault P.given P.does P.vouches
+    ensures refused { IfErr result (IsTurnFault P.Port
         (solo_of node.old pending.now port.old) (solo_of node.new pending.now port.new)
         (handed (option_map (λ b. b.now) made.entry) initiative) (λ asked. ⊥)) }
     ensures vouches_on { KeepsVouching P.vouches port.old port.new }
@@ -109,7 +109,7 @@ fn answered<D: Disk>(
 
 /// Receives a datagram. A receive that fails counts as one that returned nothing.
 fn received<P: Port>(port: &mut P) -> Option<(u8, Vec<u8>)>
-    ensures came { HasCome P.given P.does P.vouches port.old port.new
+    ensures came { HasCome P.Port port.old port.new
         (option_map (λ d. (d.0, d.1.items)) result) }
     ensures offered { GoesOnBy [] (P.offered port.old) (P.offered port.new) }
     ensures vouches_on { KeepsVouching P.vouches port.old port.new }

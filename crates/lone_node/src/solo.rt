@@ -92,8 +92,7 @@ impl<'a, D: Disk, P: Port> Solo<'a, D, P> {
     ///
     /// Those of `turn_with`.
     pub fn turn(&mut self, builds: &Packages) -> Result<Option<Act>, TurnFault>
-        ensures { IsTurn D.is_kept D.history D.failures_of P.given P.offered P.does P.vouches
-            (AllBuilds builds.now) self.old self.new result }
+        ensures { IsTurn D.Disk P.Port (AllBuilds builds.now) self.old self.new result }
     {
         self.turn_with(Some(builds), Initiative::Own)
     }
@@ -111,7 +110,7 @@ impl<'a, D: Disk, P: Port> Solo<'a, D, P> {
         made: Option<&Packages>,
         initiative: Initiative,
     ) -> Result<Option<Act>, TurnFault>
-        ensures { IsTurn D.is_kept D.history D.failures_of P.given P.offered P.does P.vouches
+        ensures { IsTurn D.Disk P.Port
             (handed (option_map (λ b. b.now) made.entry) initiative) self.old self.new result }
     {
         self.take_turn(made, initiative)
@@ -172,26 +171,25 @@ impl<'a, D: Disk, P: Port> Solo<'a, D, P> {
         // The node took its step on the turn's choice. The port went through exactly these calls:
         // one receive, unless a job was answered, and then the step's sends. It vouches for bytes
         // that the node took.
-        ensures taken { IfOk result (λ o. IfSome o (λ act. HasTaken P.given P.offered P.does
-            P.vouches self.old self.new (handed (option_map (λ b. b.now) made.entry) initiative)
-            (asked_by act))) }
+        ensures taken { IfOk result (λ o. IfSome o (λ act. HasTaken P.Port self.old self.new
+            (handed (option_map (λ b. b.now) made.entry) initiative) (asked_by act))) }
         ensures heard { IfOk result (λ o. IfSome o
-            (λ act. IsHeard P.vouches self.new.port (asked_by act))) }
+            (λ act. IsHeard P.Port self.new.port (asked_by act))) }
 
         // There was nothing to do, and nothing was offered.
         ensures nothing { IfOk result (λ o. IfNone o
-            (IsChosen P.given P.does P.vouches self.old self.new
+            (IsChosen P.Port self.old self.new
             (handed (option_map (λ b. b.now) made.entry) initiative) [] None)) }
         ensures same { IfOk result (λ o. IfNone o
             ((self.new.node ≡ self.old.node) × (self.new.pending ≡ self.old.pending)
-            × OffersNothing P.offered self.old self.new)) }
+            × OffersNothing P.Port self.old self.new)) }
 
         // Refusals, and the state that they leave.
-        ensures refused { IfErr result (IsTurnFault P.given P.does P.vouches self.old self.new
+        ensures refused { IfErr result (IsTurnFault P.Port self.old self.new
             (handed (option_map (λ b. b.now) made.entry) initiative)
-            (LeavesAtMost D.is_kept D.history self.old self.new)) }
+            (LeavesAtMost D.Disk self.old self.new)) }
         ensures left { IfErr result (λ f. (self.new.pending ≡ self.old.pending)
-            × OffersNothing P.offered self.old self.new) }
+            × OffersNothing P.Port self.old self.new) }
         ensures device { IfErr result (λ f. (k : _) → f ≡ refused.Down k
             → HasRisen (D.failures_of self.old.node.log.disk)
             (D.failures_of self.new.node.log.disk)) }
@@ -201,11 +199,11 @@ impl<'a, D: Disk, P: Port> Solo<'a, D, P> {
         ensures on_log { D.is_kept self.new.node.log.disk → IsOnLog D.history self.old.node
             → self.new.node.node.stopped ≡ false → IsOnLog D.history self.new.node }
         ensures any_moment { IfOk result (λ o. IfSome o
-            (λ act. LeavesAtMost D.is_kept D.history self.old self.new (asked_by act))) }
+            (λ act. LeavesAtMost D.Disk self.old self.new (asked_by act))) }
         ensures untouched { MatchResult result
-            (λ o. IfNone o (IsUntouched D.is_kept D.history self.old self.new))
+            (λ o. IfNone o (IsUntouched D.Disk self.old self.new))
             (λ f. ((k : _) × (f ≡ refused.Down k))
-            ⊎ IsUntouched D.is_kept D.history self.old self.new) }
+            ⊎ IsUntouched D.Disk self.old self.new) }
         ensures kept { D.is_kept self.new.node.log.disk → D.is_kept self.old.node.log.disk }
         ensures vouches_on { KeepsVouching P.vouches self.old.port self.new.port }
     {

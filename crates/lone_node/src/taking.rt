@@ -36,7 +36,7 @@ pub(crate) fn take<D: Disk, P: Port>(
     requires readied { IsCausedStep node.old (asked_by readied.act) readied }
     requires below { AllFailedBelow node.old.node.member pending.old unfailed.old }
     ensures act { IfOk result (λ act. act ≡ readied.act) }
-    ensures taken { IfOk result (λ act. TookStep P.offered P.does
+    ensures taken { IfOk result (λ act. TookStep P.Port
         (solo_of node.old pending.old port.old) (solo_of node.new pending.new port.new)
         (asked_by readied.act)) }
     ensures given { GoesOnBy [] (P.given port.old) (P.given port.new) }
@@ -48,11 +48,11 @@ pub(crate) fn take<D: Disk, P: Port>(
         → HasRisen (D.failures_of node.old.log.disk) (D.failures_of node.new.log.disk)) }
     ensures on_log { D.is_kept node.new.log.disk → IsOnLog D.history node.old
         → node.new.node.stopped ≡ false → IsOnLog D.history node.new }
-    ensures any_moment { LeavesAtMost D.is_kept D.history
+    ensures any_moment { LeavesAtMost D.Disk
         (solo_of node.old pending.old port.old) (solo_of node.new pending.new port.new)
         (asked_by readied.act) }
     ensures untouched { IfErr result (λ f. ((k : _) × (f ≡ refused.Down k))
-        ⊎ IsUntouched D.is_kept D.history (solo_of node.old pending.old port.old)
+        ⊎ IsUntouched D.Disk (solo_of node.old pending.old port.old)
         (solo_of node.new pending.new port.new)) }
     ensures kept { D.is_kept node.new.log.disk → D.is_kept node.old.log.disk }
     ensures below { AllFailedBelow node.new.node.member pending.new unfailed.new }
@@ -114,7 +114,7 @@ fn finish<D: Disk, P: Port>(
 {
     match node.finish(ready) {
         Ok(out) => {
-            offer(port, me, &out.sends);
+            offer(node, port, me, &out.sends);
             Ok(())
         }
         Err(NodeFault::Log(LogFault::Device)) => Err(TurnFault::Down(me)),

@@ -51,8 +51,8 @@ IsUnwritten wanted Go unwritten = unwritten ≡ None
 IsUnwritten wanted Make unwritten = unwritten ≡ Some wanted
 IsUnwritten wanted Write unwritten = unwritten ≡ Some wanted
 
--- A start of the owner, in a run whose key, if any, has this fingerprint: the log on this disk was
--- only looked at, and this text must still be written, by the plan for what was found.
+-- A start of the owner, in a run whose key, if any, has this fingerprint. The log on this disk was
+-- only looked at. By the plan for what was found, this text must still be written.
 pub record IsStarted (gave : Option Text → Type 0) (known : History) (i : Identity)
     (key : Option Text) (is_continued : Bool) (disk : FileDisk) (unwritten : Option Text)
     : Type 0 where

@@ -14,7 +14,7 @@ pub trait LogFolder {
     /// Whether the folder was found with this mode, as far as the implementation says.
     ghost had_mode: { Self → ℕ → Type 0 };
 
-    /// Whether a read of the member's run file gave this text, or that there is none, as far as the
+    /// Whether a read of the member's run file gave this text, or found no file, as far as the
     /// implementation says.
     ghost gave: { Self → ℕ → Option Text → Type 0 };
 

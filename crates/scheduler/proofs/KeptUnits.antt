@@ -1,9 +1,10 @@
 -- A desk keeps what a datagram says of its unit, and nothing of another one.
-use Rattle.std.proofs.Common.{◌≡◌, ◌<◌, ◌∙◌, ℕ, Bool, Err, None, Ok, Option, Result, Some, true, false, ap, arith, eqb-true, length, refl, subst, sym}
+use Rattle.std.proofs.Common.{◌≡◌, ◌<◌, ◌≤◌, ◌∙◌, ℕ, Bool, Err, None, Ok, Option, Result, Some, true, false, ap, eqb-true, length, refl, subst, sym}
+use Rattle.std.proofs.lemmas.Bool.{le-ltb, lt-ltb}
 use Rattle.std.specs.Prelude.{OnOk, if◌then◌else◌, nat_eq}
 use Rattle.std.specs.declared.time.Instant.{Instant}
 use Rattle.ballots.specs.declared.message.Body.{Body}
-use Rattle.ballots.specs.declared.message.Body.TheVariants.{Ask, Nay}
+use Rattle.ballots.specs.declared.message.Body.TheVariants.{Ask, Nay, Offer}
 use Rattle.ballots.specs.declared.message.Message.{Message}
 use Rattle.claims.specs.Claims.{claim_same}
 use Rattle.claims.specs.declared.claim.Claim.{Claim}
@@ -11,7 +12,7 @@ use Rattle.engine.specs.Division.{number_found}
 use Rattle.faults.specs.Bytes.{Text}
 use Rattle.indexmap.specs.IndexMap.{get}
 use Rattle.protocol.specs.State.{State, Value}
-use Rattle.scheduler.specs.Hearing.{Hears, HearsMessage, HearsOf, back_after, longest, named_after, put, with_back}
+use Rattle.scheduler.specs.Hearing.{Hears, HearsMessage, HearsOf, HearsWhole, back_after, failures_after, longest, message_in, named_after, put, whole_of, with_back}
 use Rattle.scheduler.specs.declared.desk.Desk.{Desk}
 use Rattle.scheduler.specs.declared.heard.GivenBack.{GivenBack}
 use Rattle.wire.specs.Reading.{datagram_of}
@@ -57,67 +58,127 @@ back_anew all new u v c now (Some b) is other kept =
     (sym other)
     ∙ ap (λ o. put all u (with_back (Some c) now o) v) (sym is))
 
+module _ (bytes : Text) where
+  -- a datagram that is longer isn't read
+  long_none : longest < length bytes → message_in bytes ≡ None
+  long_none long =
+      ap (λ b. if b then None else whole_of (datagram_of bytes))
+      (lt-ltb longest (length bytes) long)
+
+  -- one that isn't may be
+  short_read : length bytes ≤ longest → message_in bytes ≡ whole_of (datagram_of bytes)
+  short_read short =
+      ap (λ b. if b then None else whole_of (datagram_of bytes))
+      (le-ltb longest (length bytes) short)
+
 module _ (s : State) (now : Instant) (bytes : Text) (old new : Desk) where
-  -- of a datagram that is this message the desk heard what the message says
-  pub heard_whole : (d : Datagram) (m : Message Value) → datagram_of bytes ≡ Ok d → d ≡ Whole m
+  -- what the desk heard of the message in a datagram it heard of the datagram
+  heard : (o : Option (Message Value)) → message_in bytes ≡ o → HearsWhole s now o old new
+      → Hears s now bytes old new
+  heard o is heard_it = subst (λ m. HearsWhole s now m old new) (sym is) heard_it
+
+  -- so it is of one that is this message
+  pub heard_whole : (d : Datagram) (m : Message Value) → length bytes ≤ longest
+      → datagram_of bytes ≡ Ok d → d ≡ Whole m
       → HearsMessage s now m (number_found s.division m.path) old new → Hears s now bytes old new
-  heard_whole d m is whole heard n is_n within =
-      let same : m ≡ n = cc in
-      subst (λ k. HearsMessage s now k (number_found s.division k.path) old new) same heard
+  heard_whole d m short is whole =
+      heard (Some m)
+      (short_read bytes short ∙ (ap whole_of is ∙ ap (λ d. whole_of (Ok d)) whole))
 
-  -- a piece is not a message
-  pub heard_piece : (p : Piece) → datagram_of bytes ≡ Ok (PieceOf p) → Hears s now bytes old new
-  heard_piece p is n is_n within = let no : ⊥ = cc in absurd no
+module _ (s : State) (now : Instant) (bytes : Text) (d : Desk) where
+  -- of a piece it keeps nothing
+  pub heard_piece : (p : Piece) → length bytes ≤ longest → datagram_of bytes ≡ Ok (PieceOf p)
+      → Hears s now bytes d d
+  heard_piece p short is =
+      heard s now bytes d d None (short_read bytes short ∙ ap whole_of is) (refl, refl, refl)
 
-  -- nor is a text that isn't a datagram
-  pub heard_fault : (f : WireFault) → datagram_of bytes ≡ Err f → Hears s now bytes old new
-  heard_fault f is n is_n within = let no : ⊥ = cc in absurd no
+  -- nor of a text that isn't a datagram
+  pub heard_fault : (f : WireFault) → length bytes ≤ longest → datagram_of bytes ≡ Err f
+      → Hears s now bytes d d
+  heard_fault f short is =
+      heard s now bytes d d None (short_read bytes short ∙ ap whole_of is) (refl, refl, refl)
 
-  -- what is longer isn't read
-  pub heard_long : longest < length bytes → Hears s now bytes old new
-  heard_long long n is_n within = absurd (omega (arith, long, within))
+  -- nor of one that is longer
+  pub heard_long : longest < length bytes → Hears s now bytes d d
+  heard_long long = heard s now bytes d d None (long_none bytes long) (refl, refl, refl)
 
 module _ (s : State) (now : Instant) (m : Message Value) (u : ℕ) (old new : Desk) where
+  -- what the desk keeps of a message with this body, of nays
+  abbrev pub KeepsNamed : ℕ → Body Value → Type 0
+  KeepsNamed sender b =
+      (v : ℕ) → get nat_eq new.named v
+      ≡ put (get nat_eq old.named) u (named_after s sender b now (get nat_eq old.named u)) v
+
+  -- of what was given back
+  abbrev pub KeepsBack : Body Value → Type 0
+  KeepsBack b =
+      (v : ℕ) → get nat_eq new.given_back v
+      ≡ put (get nat_eq old.given_back) u
+      (back_after s old u m.sender b now (get nat_eq old.given_back u)) v
+
+  -- and of where else builds failed
+  abbrev pub KeepsElsewhere : Body Value → Type 0
+  KeepsElsewhere b =
+      (v : ℕ) → get nat_eq new.failed_elsewhere v
+      ≡ put (get nat_eq old.failed_elsewhere) u
+      (failures_after s u b (get nat_eq old.failed_elsewhere u)) v
+
   -- what the desk heard of the message's body it heard of the message
-  pub hears_body : (b : Body Value) → m.body ≡ b
-      → ((v : ℕ) → get nat_eq new.named v
-      ≡ put (get nat_eq old.named) u (named_after s m.sender b now (get nat_eq old.named u)) v)
-      → ((v : ℕ) → get nat_eq new.given_back v
-      ≡ put (get nat_eq old.given_back) u
-      (back_after s old u m.sender b now (get nat_eq old.given_back u)) v)
-      → HearsOf s now m u old new
-  hears_body b is named given =
-      let Holds : Body Value → Type 0 = λ b.
-      ((v : ℕ) → get nat_eq new.named v
-      ≡ put (get nat_eq old.named) u (named_after s m.sender b now (get nat_eq old.named u)) v)
-      × ((v : ℕ) → get nat_eq new.given_back v
-      ≡ put (get nat_eq old.given_back) u
-      (back_after s old u m.sender b now (get nat_eq old.given_back u)) v) in
-      let both : Holds m.body = subst Holds (sym is) (named, given) in
-      record { named = both.0; given_back = both.1 }
+  pub hears_body : (b : Body Value) → m.body ≡ b → KeepsNamed m.sender b → KeepsBack b
+      → KeepsElsewhere b → HearsOf s now m u old new
+  hears_body b is named given elsewhere =
+      let Holds : Body Value → Type 0 =
+      λ b. KeepsNamed m.sender b × KeepsBack b × KeepsElsewhere b in
+      let all : Holds m.body = subst Holds (sym is) (named, given, elsewhere) in
+      record { named = all.0; given_back = all.1; failed_elsewhere = all.2 }
+
+  -- what isn't changed is kept
+  same_named : new.named ≡ old.named → (v : ℕ)
+      → get nat_eq new.named v ≡ put (get nat_eq old.named) u (get nat_eq old.named u) v
+  same_named same v =
+      ap (λ all. get nat_eq all v) same ∙ put_same (get nat_eq old.named) u v
+
+  same_back : new.given_back ≡ old.given_back → (v : ℕ)
+      → get nat_eq new.given_back v
+      ≡ put (get nat_eq old.given_back) u (get nat_eq old.given_back u) v
+  same_back same v =
+      ap (λ all. get nat_eq all v) same ∙ put_same (get nat_eq old.given_back) u v
+
+  same_elsewhere : new.failed_elsewhere ≡ old.failed_elsewhere → (v : ℕ)
+      → get nat_eq new.failed_elsewhere v
+      ≡ put (get nat_eq old.failed_elsewhere) u (get nat_eq old.failed_elsewhere u) v
+  same_elsewhere same v =
+      ap (λ all. get nat_eq all v) same ∙ put_same (get nat_eq old.failed_elsewhere) u v
 
   -- so it is of a question for the unit that is found
   pub hears_question : {T E : Type 0} (r : Result T E) (o : Option ℕ) → o ≡ Some u → m.body ≡ Ask
-      → OnOk r ((v : ℕ) → get nat_eq new.named v
-      ≡ put (get nat_eq old.named) u (named_after s m.sender Ask now (get nat_eq old.named u)) v)
-      → OnOk r ((v : ℕ) → get nat_eq new.given_back v
-      ≡ put (get nat_eq old.given_back) u
-      (back_after s old u m.sender Ask now (get nat_eq old.given_back u)) v)
+      → OnOk r (KeepsNamed m.sender Ask) → OnOk r (KeepsBack Ask)
+      → new.failed_elsewhere ≡ old.failed_elsewhere
       → OnOk r (HearsMessage s now m o old new)
-  hears_question (Ok done) o found is named given =
-      subst (λ n. HearsMessage s now m n old new) (sym found) (hears_body Ask is named given)
-  hears_question (Err fault) o found is named given = tt
+  hears_question (Ok done) o found is named given same =
+      subst (λ n. HearsMessage s now m n old new) (sym found)
+      (hears_body Ask is named given (same_elsewhere same))
+  hears_question (Err fault) o found is named given same = tt
 
-  -- and of a nay
+  -- of a nay
   pub hears_nay : {T E : Type 0} (r : Result T E) (o : Option ℕ) (refused claim : Claim)
       → o ≡ Some u → m.body ≡ Nay refused claim
-      → OnOk r ((sender : ℕ) (v : ℕ) → get nat_eq new.named v
-      ≡ put (get nat_eq old.named) u
-      (named_after s sender (Nay refused claim) now (get nat_eq old.named u)) v)
+      → OnOk r ((sender : ℕ) → KeepsNamed sender (Nay refused claim))
       → new.given_back ≡ old.given_back
+      → new.failed_elsewhere ≡ old.failed_elsewhere
       → OnOk r (HearsMessage s now m o old new)
-  hears_nay (Ok done) o refused claim found is named same =
+  hears_nay (Ok done) o refused claim found is named back same =
       subst (λ n. HearsMessage s now m n old new) (sym found)
-      (hears_body (Nay refused claim) is (named m.sender)
-      (λ v. ap (λ all. get nat_eq all v) same ∙ put_same (get nat_eq old.given_back) u v))
-  hears_nay (Err fault) o refused claim found is named same = tt
+      (hears_body (Nay refused claim) is (named m.sender) (same_back back) (same_elsewhere same))
+  hears_nay (Err fault) o refused claim found is named back same = tt
+
+  -- and of an offer
+  pub hears_offer : {T E : Type 0} (r : Result T E) (o : Option ℕ) (claim : Claim)
+      → o ≡ Some u → m.body ≡ Offer claim
+      → OnOk r (KeepsElsewhere (Offer claim))
+      → (new.named ≡ old.named) × (new.given_back ≡ old.given_back)
+      → OnOk r (HearsMessage s now m o old new)
+  hears_offer (Ok done) o claim found is elsewhere (named, back) =
+      subst (λ n. HearsMessage s now m n old new) (sym found)
+      (hears_body (Offer claim) is (same_named named) (same_back back) elsewhere)
+  hears_offer (Err fault) o claim found is elsewhere same = tt

@@ -39,3 +39,13 @@ module _ (posted : List Posted) (unit : Option ℕ) where
   one_comes names k p at within is =
       ap (λ j. with_name names (posted_at posted j)) at
       ∙ ap (with_name names) (slice_get-get_or posted k p within ∙ ap Some (sym is))
+
+  -- it is not out
+  pub none_posted : place_of posted unit ≡ None → posted_at posted (place_of posted unit) ≡ None
+  none_posted none = ap (posted_at posted) none
+
+  -- it is that one
+  pub one_posted : (k : ℕ) (p : Posted) → place_of posted unit ≡ Some k → k < length posted
+      → p ≡ get_or posted k p → posted_at posted (place_of posted unit) ≡ Some p
+  one_posted k p at within is =
+      ap (posted_at posted) at ∙ (slice_get-get_or posted k p within ∙ ap Some (sym is))

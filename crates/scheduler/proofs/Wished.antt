@@ -29,7 +29,8 @@ module _ (s : State) (d : Desk) where
   pub claim : (now : Instant) (wish : Wish) → IsClaimWished s d now wish → is_claim (Some wish) ≡ true
   claim now wish (inl (u, anew, is)) = ap is_claim (ap Some is)
   claim now wish (inr (place, inl (p, resumes, least, (u, number, is)))) = ap is_claim (ap Some is)
-  claim now wish (inr (place, inr (turn, p, none, least, (u, number, is)))) = ap is_claim (ap Some is)
+  claim now wish (inr (place, inr (none, (turn, p, before, least, (u, number, is))))) =
+      ap is_claim (ap Some is)
 
   -- so a question is allowed at any time
   allowed : (gives_way : Bool) (wish : Wish) → is_claim (Some wish) ≡ false → IsAllowed s gives_way wish

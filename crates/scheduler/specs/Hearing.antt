@@ -1,11 +1,11 @@
 -- What a desk keeps of what others said of units.
-use Rattle.std.specs.Prelude.{◌≡◌, ◌≤◌, ◌==◌, ◌&&◌, ℕ, Bool, false, not, Ok, Option, None, Some, if◌then◌else◌, length, nat_eq}
+use Rattle.std.specs.Prelude.{◌≡◌, ◌==◌, ◌&&◌, ℕ, Bool, Err, false, not, Ok, Option, None, Result, Some, if◌then◌else◌, length, nat_eq, nat_lt}
 use Rattle.std.specs.Duration.{as_nanos}
 use Rattle.std.specs.declared.time.Instant.{Instant}
 use Rattle.claims.specs.Claims.{claim_same}
 use Rattle.claims.specs.declared.claim.Claim.{Claim}
 use Rattle.ballots.specs.declared.message.Body.{Body}
-use Rattle.ballots.specs.declared.message.Body.TheVariants.{Ask, Nay}
+use Rattle.ballots.specs.declared.message.Body.TheVariants.{Ask, Nay, Offer}
 use Rattle.ballots.specs.declared.message.Message.{Message}
 use Rattle.engine.specs.Division.{number_found}
 use Rattle.faults.specs.Bytes.{Text}
@@ -13,9 +13,13 @@ use Rattle.indexmap.specs.IndexMap.{get}
 use Rattle.turn_rules.specs.Wishes.{is_of_another}
 use Rattle.protocol.specs.State.{State, Value, facts_at}
 use Rattle.wire.specs.Reading.{datagram_of}
-use Rattle.wire.specs.declared.datagram.Datagram.TheVariants.{Whole}
+use Rattle.wire.specs.declared.WireFault.{WireFault}
+use Rattle.wire.specs.declared.datagram.Datagram.{Datagram}
+use Rattle.wire.specs.declared.datagram.Datagram.TheVariants.{Piece, Whole}
 use Rattle.scheduler.specs.Waiting.{has_waited, since_promised}
+use Rattle.scheduler.specs.Tries.{after_notice, after_offer, is_counted}
 use Rattle.scheduler.specs.declared.desk.Desk.{Desk}
+use Rattle.scheduler.specs.declared.failures.Failures.{Failures}
 use Rattle.scheduler.specs.declared.heard.GivenBack.{GivenBack}
 use Rattle.scheduler.specs.declared.heard.Named.{Named}
 
@@ -64,6 +68,14 @@ back_after s d u sender Ask now old =
     with_back (given_by s d u sender now (facts_at s u).promised) now old
 back_after s d u sender _ now old = old
 
+-- ---- where else builds failed
+
+-- What is known of where else builds of a unit failed, once its message came: an offer may say that
+-- its member tries again.
+abbrev pub failures_after : State → ℕ → Body Value → Option Failures → Option Failures
+failures_after s u (Offer claim) old = after_offer (facts_at s u).promised claim old
+failures_after s u _ old = old
+
 -- ---- messages
 
 -- by unit, this, of the unit that was spoken of; and what was, of each other one
@@ -79,19 +91,50 @@ pub record HearsOf (s : State) (now : Instant) (m : Message Value) (u : ℕ) (ol
     pub given_back : (v : ℕ) → get nat_eq new.given_back v
         ≡ put (get nat_eq old.given_back) u
         (back_after s old u m.sender m.body now (get nat_eq old.given_back u)) v
+    pub failed_elsewhere : (v : ℕ) → get nat_eq new.failed_elsewhere v
+        ≡ put (get nat_eq old.failed_elsewhere) u
+        (failures_after s u m.body (get nat_eq old.failed_elsewhere u)) v
 
 -- So it does of the unit that the message names, if there is one; else all stays.
 abbrev pub HearsMessage : State → Instant → Message Value → Option ℕ → Desk → Desk → Type 0
 HearsMessage s now m None old new =
     (new.named ≡ old.named) × (new.given_back ≡ old.given_back)
+    × (new.failed_elsewhere ≡ old.failed_elsewhere)
 HearsMessage s now m (Some u) old new = HearsOf s now m u old new
 
 -- How long a datagram may be that is read: longer than any question or nay.
 abbrev pub longest : ℕ
 longest = 1024
 
--- So it does of a datagram that is a whole message, and no longer than that.
+-- the message, if it is a datagram with a whole one
+abbrev pub whole_of : Result Datagram WireFault → Option (Message Value)
+whole_of (Ok (Whole m)) = Some m
+whole_of (Ok (Piece p)) = None
+whole_of (Err fault) = None
+
+-- The message that is read: the datagram has a whole one, and is no longer than that.
+abbrev pub message_in : Text → Option (Message Value)
+message_in bytes = if nat_lt longest (length bytes) then None else whole_of (datagram_of bytes)
+
+-- So it does of that message; of any other datagram it keeps nothing.
+abbrev pub HearsWhole : State → Instant → Option (Message Value) → Desk → Desk → Type 0
+HearsWhole s now None old new =
+    (new.named ≡ old.named) × (new.given_back ≡ old.given_back)
+    × (new.failed_elsewhere ≡ old.failed_elsewhere)
+HearsWhole s now (Some m) old new = HearsMessage s now m (number_found s.division m.path) old new
+
+-- So it does of a datagram.
 abbrev pub Hears : State → Instant → Text → Desk → Desk → Type 0
-Hears s now bytes old new =
-    (m : Message Value) → datagram_of bytes ≡ Ok (Whole m) → length bytes ≤ longest
-    → HearsMessage s now m (number_found s.division m.path) old new
+Hears s now bytes old new = HearsWhole s now (message_in bytes) old new
+
+-- ---- notices
+
+-- The desk keeps of a notice of this member for the unit that a build failed there, if it counts;
+-- else all stays.
+abbrev pub HearsNotice : State → ℕ → ℕ → Desk → Desk → Type 0
+HearsNotice s from u old new =
+    (v : ℕ) → get nat_eq new.failed_elsewhere v
+    ≡ (if is_counted s from u
+    then put (get nat_eq old.failed_elsewhere) u
+    (after_notice from (facts_at s u).promised (get nat_eq old.failed_elsewhere u)) v
+    else get nat_eq old.failed_elsewhere v)

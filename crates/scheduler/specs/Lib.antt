@@ -1,9 +1,11 @@
+pub mod CatchingUp
 pub mod Hearing
 pub mod Held
 pub mod Keeping
 pub mod Looking
 pub mod Posted
 pub mod Taking
+pub mod Tries
 pub mod Waiting
 pub mod Wishing
 pub use Rattle.turn_rules.specs.declared.wish.Wish

@@ -1,18 +1,19 @@
 -- What a desk keeps of what a node did.
-use Rattle.std.specs.Prelude.{◌≡◌, ◌+◌, ◌++◌, ◌∷◌, ◌==◌, ◌⊎◌, ℕ, List, Option, None, Some, [], false, filter, if◌then◌else◌, nat_eq, not, option_and_then, position, slice_get}
+use Rattle.std.specs.Prelude.{◌≡◌, ◌+◌, ◌++◌, ◌∷◌, ◌==◌, ◌⊎◌, ℕ, List, Option, None, Some, [], false, filter, if◌then◌else◌, is_some, nat_eq, not, option_and_then, position, slice_get}
 use Rattle.std.specs.List.{remove}
 use Rattle.turn_rules.specs.declared.act.Act.{Act}
 use Rattle.turn_rules.specs.declared.act.Act.TheVariants.{Datagram, Own}
 use Rattle.engine.specs.Division.{number_found}
 use Rattle.faults.specs.Answers.{option_or}
 use Rattle.faults.specs.Bytes.{Text}
-use Rattle.indexmap.specs.IndexMap.{insert_entry}
+use Rattle.indexmap.specs.IndexMap.{get, insert_entry}
 use Rattle.indexmap.specs.IndexSet.{contains}
 use Rattle.listing.specs.Tree.{position_of}
 use Rattle.protocol.specs.State.{State}
 use Rattle.protocol.specs.declared.input.Input.{Input}
 use Rattle.protocol.specs.declared.input.Input.TheVariants as inputs
 use Rattle.std.specs.declared.time.Instant.{Instant}
+use Rattle.job_folder.specs.declared.fault.WorkFault.{WorkFault}
 use Rattle.scheduler.specs.Hearing.{Hears}
 use Rattle.scheduler.specs.declared.desk.Desk.{Desk}
 use Rattle.scheduler.specs.declared.posted.Posted.{Posted}
@@ -59,6 +60,35 @@ with_name names (Some p) = insert_entry nat_eq names p.unit p.name
 abbrev pub with_failed : List (ℕ × Text) → List Posted → Option ℕ → List (ℕ × Text)
 with_failed names posted unit = with_name names (posted_at posted (place_of posted unit))
 
+-- ---- marks and notices of a build that failed
+
+-- these units, and that of the job, if there is one
+abbrev pub with_pressing : List ℕ → Option Posted → List ℕ
+with_pressing units None = units
+with_pressing units (Some p) = units ++ p.unit ∷ []
+
+-- A fault is returned only if a build failed that was out, and its mark couldn't be written. Then
+-- the unit is among those whose marks are unwritten. If the mark was written, the unit isn't.
+abbrev pub AreUnwritten : Desk → Option Posted → Option WorkFault → Desk → Type 0
+AreUnwritten old None fault new = (fault ≡ None) × (new.unwritten ≡ old.unwritten)
+AreUnwritten old (Some p) fault new =
+    (v : ℕ) → contains nat_eq new.unwritten v
+    ≡ (if nat_eq p.unit v then is_some fault else contains nat_eq old.unwritten v)
+
+-- A notice is due at once for a build that failed, too.
+abbrev pub AreUnsent : Desk → Option Posted → Desk → Type 0
+AreUnsent old posted new =
+    new.notices.unsent.items ≡ with_pressing old.notices.unsent.items posted
+
+-- the job of the unit, if it is out
+abbrev pub job_out : Desk → Option ℕ → Option Posted
+job_out d unit = posted_at d.out.items (place_of d.out.items unit)
+
+-- The desk keeps whether a failed build's mark couldn't be written, and that a notice of it is due.
+abbrev pub IsMarkKept : Desk → Option ℕ → Option WorkFault → Desk → Type 0
+IsMarkKept old unit fault new =
+    AreUnwritten old (job_out old unit) fault new × AreUnsent old (job_out old unit) new
+
 -- ---- a question
 
 -- the position after this one, if there is one; else the first
@@ -87,21 +117,21 @@ IsQuestionSame old new =
 abbrev pub IsAllSame : Desk → Desk → Type 0
 IsAllSame old new = IsQuestionSame old new × (new.pressing ≡ old.pressing)
 
--- these units, and that which was posted, if one was
-abbrev pub with_pressing : List ℕ → Option Posted → List ℕ
-with_pressing units None = units
-with_pressing units (Some p) = units ++ p.unit ∷ []
-
 -- The last question is what it was, and one is due at once for the unit, too, if it was out.
 abbrev pub IsPressed : Desk → Option ℕ → Desk → Type 0
 IsPressed old unit new =
     IsQuestionSame old new
-    × (new.pressing.items
-    ≡ with_pressing old.pressing.items (posted_at old.out.items (place_of old.out.items unit)))
+    × (new.pressing.items ≡ with_pressing old.pressing.items (job_out old unit))
+
+-- The last question is what it was, and none is due at once for this unit, if it is one.
+abbrev pub IsUnpressed : Desk → Option ℕ → Desk → Type 0
+IsUnpressed old unit new =
+    IsQuestionSame old new × (new.pressing.items ≡ without_asked old.pressing.items unit)
 
 -- what the desk keeps of a question, where the member was asked to ask
 abbrev pub KeepsQuestion : State → Input → Instant → Desk → Desk → Type 0
-KeepsQuestion s (inputs.Claim path host above) now old new = IsAllSame old new
+KeepsQuestion s (inputs.Claim path host above) now old new =
+    IsUnpressed old (number_found s.division path) new
 KeepsQuestion s (inputs.Built path given) now old new = IsAllSame old new
 KeepsQuestion s (inputs.Failed path) now old new = IsPressed old (number_found s.division path) new
 KeepsQuestion s inputs.Nudge now old new = IsAllSame old new
@@ -134,10 +164,23 @@ IsReturnedBut old (Some u) new =
 abbrev pub KeepsHeard : State → Act → Instant → Desk → Desk → Type 0
 KeepsHeard s (Own input) now old new =
     (new.named ≡ old.named) × (new.given_back ≡ old.given_back)
+    × (new.failed_elsewhere ≡ old.failed_elsewhere)
 KeepsHeard s (Datagram bytes) now old new = Hears s now bytes.items old new
 
 -- ---- marks that are gone
 
--- What is left has the names that it had.
-abbrev pub AreLeft : (ℕ → Option Text) → (ℕ → Option Text) → Type 0
-AreLeft old new = (u : ℕ) → (new u ≡ None) ⊎ (new u ≡ old u)
+-- What is known of builds of this unit that failed, here and elsewhere, stays.
+abbrev pub IsLeft : Desk → Desk → ℕ → Type 0
+IsLeft old new u =
+    (get nat_eq new.failed u ≡ get nat_eq old.failed u)
+    × (get nat_eq new.failed_elsewhere u ≡ get nat_eq old.failed_elsewhere u)
+
+-- It is forgotten: the mark was written, and is gone.
+abbrev pub IsForgotten : Desk → Desk → ℕ → Type 0
+IsForgotten old new u =
+    (contains nat_eq old.unwritten u ≡ false) × (get nat_eq new.failed u ≡ None)
+    × (get nat_eq new.failed_elsewhere u ≡ None)
+
+-- What is known of each unit stays or is forgotten.
+abbrev pub AreLeft : Desk → Desk → Type 0
+AreLeft old new = (u : ℕ) → IsLeft old new u ⊎ IsForgotten old new u

@@ -1,5 +1,5 @@
 -- What a desk wishes of a member's node.
-use Rattle.std.specs.Prelude.{◌≡◌, ◌+◌, ◌-◌, ◌*◌, ◌%◌, ◌<◌, ◌≤◌, ◌==◌, ◌&&◌, ◌||◌, ◌⊎◌, ⊤, ℕ, Bool, true, false, not, List, None, Option, Some, if◌then◌else◌, is_some, length, max, min, nat_eq, nat_lt, option_map, slice_get}
+use Rattle.std.specs.Prelude.{◌≡◌, ◌+◌, ◌-◌, ◌*◌, ◌%◌, ◌<◌, ◌≤◌, ◌==◌, ◌&&◌, ◌||◌, ◌⊎◌, ⊤, ℕ, Bool, true, false, not, List, None, Option, Some, if◌then◌else◌, is_some, length, max, min, nat_eq, nat_le, nat_lt, option_map, slice_get}
 use Rattle.std.specs.Duration.{as_nanos, max_nanos}
 use Rattle.std.specs.List.{Contains}
 use Rattle.turn_rules.specs.Own.{Barred, IsFree, IsLeastFree}
@@ -14,6 +14,7 @@ use Rattle.protocol.specs.State.{Building, Gathering, OpenClaim, Progress, State
 use Rattle.std.specs.declared.time.Duration.{Duration}
 use Rattle.std.specs.declared.time.Instant.{Instant}
 use Rattle.scheduler.specs.Posted.{has_unit}
+use Rattle.scheduler.specs.Tries.{tries_at}
 use Rattle.scheduler.specs.Waiting.{back_of, has_waited, is_named, is_over, round_named, since_promised}
 use Rattle.scheduler.specs.declared.desk.Desk.{Desk}
 use Rattle.scheduler.specs.declared.heard.GivenBack.{GivenBack}
@@ -73,20 +74,39 @@ is_in_turn d s now u None =
     then has_waited (takeover_and_slots d (turn_of s u)) (since_now d s u) now
     else (turn_of s u == 0) || has_waited (slots d (turn_of s u)) (since_now d s u) now
 
--- Whether the unit is left to other members at this time: a nay named another's claim for it
--- lately, or it isn't this member's turn. Without a time, no unit is.
-abbrev pub is_left : Desk → State → Option Instant → ℕ → Bool
-is_left d s None u = false
-is_left d s (Some now) u =
-    is_named d.pace.takeover now (facts_at s u).promised (get nat_eq d.named u)
-    || not (is_in_turn d s now u (back_at d s u))
+-- Whether the member needn't wait for others to claim the unit: it is its turn. What was its own
+-- before its start waits for no turn.
+abbrev pub may_begin : Desk → State → Instant → Sought → ℕ → Bool
+may_begin d s now Any u = is_in_turn d s now u (back_at d s u)
+may_begin d s now Mine u = true
+may_begin d s now (InTurn turn) u = is_in_turn d s now u (back_at d s u)
 
--- Whether the unit may not be claimed: it is out, or it failed here, or no round is left for it, or
--- it is left to other members.
-abbrev pub barred_at : Desk → State → Option Instant → Barred
-barred_at d s at u =
+-- Whether the unit is left to other members at this time: a nay named another's claim for it
+-- lately, or the member has to wait for others. Without a time, no unit is.
+abbrev pub is_left : Desk → State → Option Instant → Sought → ℕ → Bool
+is_left d s None sought u = false
+is_left d s (Some now) sought u =
+    is_named d.pace.takeover now (facts_at s u).promised (get nat_eq d.named u)
+    || not (may_begin d s now sought u)
+
+-- Whether the open claim is for the unit.
+abbrev pub is_for : Option OpenClaim → ℕ → Bool
+is_for None u = false
+is_for (Some o) u = o.unit == u
+
+-- Whether nobody claims the unit any more: its builds failed at as many other members as it may be
+-- tried at. (A unit that failed at this one is barred for that.) A claim that is open goes on.
+abbrev pub is_given_up : Desk → State → ℕ → Bool
+is_given_up d s u =
+    not (is_for s.claim u) && nat_le d.pace.tries (tries_at (get nat_eq d.failed_elsewhere u))
+
+-- Whether the unit may not be claimed: it is out, or it failed here, or it is given up, or no round
+-- is left for it, or it is left to other members.
+abbrev pub barred_at : Desk → State → Option Instant → Sought → Barred
+barred_at d s at sought u =
     has_unit d.out.items u
-    || (is_some (get nat_eq d.failed u) || (is_spent s u || is_left d s at u))
+    || (is_some (get nat_eq d.failed u)
+    || (is_given_up d s u || (is_spent s u || is_left d s at sought u)))
 
 -- Whether the member promised the unit to its own claim last.
 abbrev pub is_mine : State → ℕ → Bool
@@ -100,7 +120,7 @@ is_other d s (InTurn turn) u = not (turn_now d s u == turn)
 
 -- Whether the unit is passed over: it isn't looked for, or it may not be claimed.
 abbrev pub passed_at : Desk → State → Option Instant → Sought → Barred
-passed_at d s at sought u = is_other d s sought u || barred_at d s at u
+passed_at d s at sought u = is_other d s sought u || barred_at d s at sought u
 
 -- It is the least queued package of those that are looked for whose unit may be claimed.
 abbrev pub IsLeastOf : Desk → State → Option Instant → Sought → Option ℕ → Type 0
@@ -126,11 +146,6 @@ is_at_build (Gathering c joined k) = false
 is_at_build (Building c) = true
 is_at_build (Voting b joined) = false
 
--- Whether the open claim is for the unit.
-abbrev pub is_for : Option OpenClaim → ℕ → Bool
-is_for None u = false
-is_for (Some o) u = o.unit == u
-
 -- Whether the open claim is for the unit, and waits for its build.
 abbrev pub waits_for : Option OpenClaim → ℕ → Bool
 waits_for None u = false
@@ -142,14 +157,14 @@ has_rounds s u = nat_lt u (length s.division.units) && not (is_spent s u)
 
 -- ---- which units are to be claimed
 
--- Above which round a unit is claimed at least. A unit that was queued while the node was up begins
--- at round 2. So a node that starts later and claims it at round 1 gets a nay.
+-- Above which round a unit is claimed at least. A unit that others may have claimed before the node's
+-- start begins at round 1, any other unit at round 2. So a node that starts late gets a nay.
 abbrev pub least_above : Bool → ℕ
 least_above true = 0
 least_above false = 1
 
 -- Above which round the unit is claimed, besides what the member promised: the round that a nay
--- named, and the first round, unless the unit was queued when a late node had caught up.
+-- named, and the first round, unless others may have claimed the unit before the node's start.
 abbrev pub above_for : Desk → ℕ → ℕ
 above_for d u = max (round_named (get nat_eq d.named u)) (least_above (contains nat_eq d.early u))
 
@@ -173,6 +188,10 @@ abbrev pub IsResumed : State → Desk → Instant → Wish → Type 0
 IsResumed s d now wish =
     (p : ℕ) × (d.resumes ≡ true) × IsLeastOf d s (Some now) Mine (Some p) × IsClaimAt s d p wish
 
+-- No package is queued whose unit was the member's own before its start and may be claimed.
+abbrev pub NoneToResume : State → Desk → Instant → Type 0
+NoneToResume s d now = (d.resumes ≡ false) ⊎ IsLeastOf d s (Some now) Mine None
+
 -- No package is queued whose unit the member may claim in one of the turns before this one.
 abbrev pub NoneBefore : State → Desk → Instant → ℕ → Type 0
 NoneBefore s d now turn =
@@ -191,16 +210,19 @@ abbrev pub has_place : Desk → Bool
 has_place d =
     not d.holds_off && (not d.is_catching_up && nat_lt (length d.out.items) d.pace.jobs)
 
--- It is a claim anew for a unit that is out; or a new one, and the desk has a place for it.
+-- It is a claim anew for a unit that is out; or a new claim, and the desk has a place for it. What
+-- was the member's own before its start comes first.
 abbrev pub IsClaimWished : State → Desk → Instant → Wish → Type 0
 IsClaimWished s d now wish =
     ((u : ℕ) × IsClaimedAnew s d u × (wish ≡ Claim (name_at s u) (above_at d s u)))
-    ⊎ ((has_place d ≡ true) × (IsResumed s d now wish ⊎ IsFirstInTurn s d now wish))
+    ⊎ ((has_place d ≡ true)
+    × (IsResumed s d now wish ⊎ (NoneToResume s d now × IsFirstInTurn s d now wish)))
 
--- Nothing new is to be claimed: the desk has no place for it, or there is no unit that the member
--- may claim in any turn.
+-- Nothing new is to be claimed: the desk has no place for it, or there is no unit that was the
+-- member's own before or that it may claim in any turn.
 abbrev pub IsNothingNew : State → Desk → Instant → Type 0
-IsNothingNew s d now = (has_place d ≡ false) ⊎ NoneBefore s d now (length s.weights)
+IsNothingNew s d now =
+    (has_place d ≡ false) ⊎ (NoneToResume s d now × NoneBefore s d now (length s.weights))
 
 -- ---- which questions are
 
@@ -278,8 +300,8 @@ LeavesNothing s d gives_way now wish =
 
 -- ---- whether there is more to come
 
--- Whether a package is queued whose unit neither is out nor failed here and has a round left, be it
--- left to other members or not.
+-- Whether a package is queued whose unit neither is out nor failed here, isn't given up, and has a
+-- round left, be it left to other members or not.
 abbrev pub HasMore : State → Desk → Bool → Type 0
 HasMore s d more =
     (least : Option ℕ) × IsLeastOf d s None Any least × (more ≡ is_some least)

@@ -1,10 +1,12 @@
-//! What a node that builds with others should try next: which jobs are out, which builds failed,
-//! what it claims or asks for, and when.
+//! What a node that builds with others should try next: which jobs are out, which builds failed
+//! here and elsewhere, what it claims or asks for, and when.
 #![tactic(auto)]
 
 mod desk;
 mod eligibility;
+mod failures;
 mod heard;
+mod notices;
 mod pace;
 mod posted;
 mod reading;

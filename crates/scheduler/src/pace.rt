@@ -5,7 +5,7 @@ ghost use Rattle.scheduler.specs.Waiting.{has_waited, is_over};
 
 use std::time::{Duration, Instant};
 
-/// The most jobs that are out at a time, and the waits.
+/// The most jobs that are out at a time, the waits, and how often a unit is tried.
 #[derive(Clone, Copy)]
 pub struct Pace {
     pub jobs: u32,
@@ -16,6 +16,8 @@ pub struct Pace {
     /// Between the times at which two members may claim one unit; and between the last question of
     /// a node that catches up and its first claim.
     pub slot: Duration,
+    /// At how many members a build of a unit may fail. After that no member claims it.
+    pub tries: u8,
 }
 
 /// Whether a wait of this length that began then is over.

@@ -1,5 +1,6 @@
 -- The calls of a port to which datagrams were offered.
-use Rattle.std.proofs.Common.{None, Option, Some, append_assoc, ◌≡◌, ◌∙◌, ◌+◌, ◌<◌, ℕ, List, [], ◌∷◌, ◌++◌, Result, Vec, map, get_or, take, length, refl, sym, ap, subst}
+use Rattle.std.proofs.Common.{None, Option, Some, append_assoc, arith, ◌≡◌, ◌∙◌, ◌+◌, ◌<◌, ℕ, List, [], ◌∷◌, ◌++◌, Result, Vec, map, get_or, take, length, refl, sym, ap, subst, suc, zero}
+use Rattle.std.specs.Prelude.{All}
 use Rattle.std.proofs.lemmas.List.{map-append, map_push, take_more, flat_map_more}
 use Rattle.std.specs.declared.alloc.Global.{Global}
 use Rattle.faults.specs.Bytes.{Text}
@@ -8,7 +9,7 @@ use Rattle.datagram_ports.proofs.Calls.{WentThrough-append}
 use Rattle.datagram_ports.specs.Calls.{Call, Sent, WentThrough}
 use Rattle.datagram_ports.specs.Kept.{GoesOnBy, Parcel}
 use Rattle.datagram_ports.specs.declared.fault.PortFault.{PortFault}
-use Rattle.turn_rules.specs.Offered.{Answered, WasOffered, parcels_from, sends_of}
+use Rattle.turn_rules.specs.Offered.{Answered, IsSent, WasOffered, parcels_from, sends_of}
 
 -- two appends to a record are one
 pub goes_on_more : {X : Type 0} (more later : List X) (a b c : Option (List X)) → GoesOnBy more a b → GoesOnBy later b c → GoesOnBy (more ++ later) a c
@@ -52,3 +53,27 @@ receiver_more from receivers texts i d below =
     ap (λ rs. parcels_from from (parcels_to rs texts)) (take_more receivers i d below)
     ∙ (ap (parcels_from from) (sym (flat_map_more (each_to texts) [] (take i receivers) (get_or receivers i d)))
     ∙ map-append (λ (s : ℕ × Text). record { from = from; to = s.0; text = s.1 }) (parcels_to (take i receivers) texts) (each_to texts (get_or receivers i d)))
+
+-- ---- what is sent
+
+-- the place of a text among the datagrams to one receiver, which others follow
+at_text : (to : ℕ) (texts : List (Vec ℕ Global)) (rest : List (ℕ × Text)) (k : ℕ) (d : Vec ℕ Global) (x : ℕ × Text) → k < length texts
+    → get_or (each_to (texts_in texts) to ++ rest) k x ≡ (to, (get_or texts k d).items)
+at_text to [] rest k d x within = absurd (omega (arith, within))
+at_text to (t ∷ ts) rest zero d x within = refl
+at_text to (t ∷ ts) rest (suc k) d x within = at_text to ts rest k d x (omega (arith, within))
+
+-- that place exists
+is_place : (to : ℕ) (texts : List (Vec ℕ Global)) (rest : List (ℕ × Text)) (k : ℕ) → k < length texts → k < length (each_to (texts_in texts) to ++ rest)
+is_place to [] rest k within = absurd (omega (arith, within))
+is_place to (t ∷ ts) rest zero within = omega arith
+is_place to (t ∷ ts) rest (suc k) within = let later = is_place to ts rest k (omega (arith, within)) in omega (arith, later)
+
+-- if there is a receiver, each of the texts is sent
+pub each_is_sent : (receivers : List ℕ) (texts : List (Vec ℕ Global)) (i : ℕ) → i < length receivers
+    → All (λ (t : Vec ℕ Global). IsSent (parcels_to receivers (texts_in texts)) t.items) texts
+each_is_sent [] texts i within = absurd (omega (arith, within))
+each_is_sent (to ∷ others) texts i within = λ k d below.
+    let rest = parcels_to others (texts_in texts) in
+    let x : ℕ × Text = (to, (get_or texts k d).items) in
+    (k, x, is_place to texts rest k below, at_text to texts rest k d x below, refl)

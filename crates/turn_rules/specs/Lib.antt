@@ -2,6 +2,7 @@ pub mod Acts
 pub mod Answering
 pub mod Calls
 pub mod Choice
+pub mod LastStep
 pub mod Laws
 pub mod Nays
 pub mod Offered

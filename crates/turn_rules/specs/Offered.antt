@@ -1,5 +1,5 @@
 -- What a step sends, and how it is offered to a port.
-use Rattle.std.specs.Prelude.{◌≡◌, ℕ, List, map, Result}
+use Rattle.std.specs.Prelude.{◌≡◌, ℕ, Any, List, map, Result}
 use Rattle.faults.specs.Bytes.{Text}
 use Rattle.datagram_ports.specs.Calls.{Call, Sent, WentThrough}
 use Rattle.datagram_ports.specs.Kept.{Parcel}
@@ -8,6 +8,10 @@ use Rattle.datagram_ports.specs.declared.fault.PortFault.{PortFault}
 -- these datagrams, each from the node to its receiver
 abbrev pub parcels_from : ℕ → List (ℕ × Text) → List Parcel
 parcels_from k sends = map (λ s. record { from = k; to = s.0; text = s.1 }) sends
+
+-- One of these datagrams has this text.
+abbrev pub IsSent : List (ℕ × Text) → Text → Type 0
+IsSent sends text = Any (λ s. s.1 ≡ text) sends
 
 -- a datagram that was offered, and the port's answer
 abbrev pub Answered : Type 0

@@ -10,6 +10,7 @@ mod answering;
 mod caused_step;
 mod fault;
 mod initiative;
+mod last_step;
 mod laws;
 mod nays;
 mod offering;
@@ -24,6 +25,7 @@ pub use crate::answering::{answer, answer_if};
 pub use crate::caused_step::{CausedStep, make_ready, take_in};
 pub use crate::fault::TurnFault;
 pub use crate::initiative::Initiative;
+pub use crate::last_step::LastStep;
 pub use crate::laws::{
     nobody_answers_what_is_not_made, there_is_one_choice, what_is_answered_is_made,
 };

@@ -1,5 +1,5 @@
 -- Lemmas about received texts.
-use Rattle.std.proofs.Common.{◌≡◌, ◌∙◌, ℕ, Bool, true, false, ◌&&◌, ◌||◌, List, [], ◌∷◌, ◌++◌, Err, Ok, OnErr, Option, Result, ap, refl, sym}
+use Rattle.std.proofs.Common.{◌≡◌, ◌∙◌, ℕ, Bool, true, false, ◌&&◌, ◌||◌, List, [], ◌∷◌, ◌++◌, Err, Ok, OnErr, Option, Result, ap, not, refl, sym}
 use Rattle.std.proofs.Math.Bool.{or-true}
 use Rattle.std.proofs.lemmas.List.Folds.{list_all-append, list_any-append}
 use Rattle.std.specs.Cmp.Lexicographic.{nat_list_eq_equiv}
@@ -7,16 +7,17 @@ use Rattle.std.specs.List.{list_all}
 use Rattle.std.specs.Str.{bytes_eq}
 use Rattle.faults.specs.Bytes.{Text, is_among}
 use Rattle.udp.specs.Inbox.{GoesOn, InboxState, Takes, came_as, is_vouched_for}
+use Rattle.udp.specs.Notices.{is_notice}
 use Rattle.udp.specs.Ways.{in_line}
 use Rattle.udp.specs.declared.line.Waiting.{Waiting}
 
 -- both tests hold if their `&&` does
-both : (a b : Bool) → (a && b) ≡ true → (a ≡ true) × (b ≡ true)
+pub both : (a b : Bool) → (a && b) ≡ true → (a ≡ true) × (b ≡ true)
 both true b h = (refl, h)
 both false b h = absurd (cc h)
 
 -- a test that follows from another holds of all that the other holds of
-all_follow : {X : Type 0} (p q : X → Bool) → ((x : X) → p x ≡ true → q x ≡ true) → (xs : List X) → list_all p xs ≡ true → list_all q xs ≡ true
+pub all_follow : {X : Type 0} (p q : X → Bool) → ((x : X) → p x ≡ true → q x ≡ true) → (xs : List X) → list_all p xs ≡ true → list_all q xs ≡ true
 all_follow p q follows [] h = refl
 all_follow p q follows (x ∷ xs) h =
     let parts = both (p x) (list_all p xs) h in
@@ -25,7 +26,7 @@ all_follow p q follows (x ∷ xs) h =
     rw (first, others)
 
 -- what is among these is among them and one more
-among_more : (came : List Text) (bytes t : Text) → is_among came t ≡ true → is_among (came ++ bytes ∷ []) t ≡ true
+pub among_more : (came : List Text) (bytes t : Text) → is_among came t ≡ true → is_among (came ++ bytes ∷ []) t ≡ true
 among_more came bytes t there =
     list_any-append (λ u. bytes_eq u t) came (bytes ∷ []) ∙ ap (λ b. b || is_among (bytes ∷ []) t) there
 
@@ -34,7 +35,7 @@ same_bytes : (t : Text) → bytes_eq t t ≡ true
 same_bytes t = nat_list_eq_equiv.refl t
 
 -- the last received bytes are among those received
-among_last : (came : List Text) (bytes : Text) → is_among (came ++ bytes ∷ []) bytes ≡ true
+pub among_last : (came : List Text) (bytes : Text) → is_among (came ++ bytes ∷ []) bytes ≡ true
 among_last came bytes =
     list_any-append (λ u. bytes_eq u bytes) came (bytes ∷ [])
     ∙ (ap (λ b. is_among came bytes || (b || false)) (same_bytes bytes) ∙ or-true (is_among came bytes))
@@ -62,6 +63,14 @@ module _ (key : Option Text) (came : List Text) where
       rw (full refl) (still_vouched_for (in_line old) bytes before)
   put_or_not old new bytes text node (Err e) put full err is before =
       rw err (still_vouched_for (in_line old) bytes before)
+
+-- One more text that doesn't begin as a notice does was queued or found no room: so does none in the
+-- queue.
+pub plain_or_not : {E : Type 0} (old new : List (Waiting ℕ)) (text : Text) (node : ℕ) (r : Result Bool E) → (r ≡ Ok true → in_line new ≡ in_line old ++ (node, text) ∷ []) → (r ≡ Ok false → new ≡ old) → OnErr r (new ≡ old) → is_notice text ≡ false → list_all (λ w. not (is_notice w.1)) (in_line old) ≡ true → list_all (λ w. not (is_notice w.1)) (in_line new) ≡ true
+plain_or_not old new text node (Ok true) put full err plain before =
+    rw (put refl) (list_all-append (λ (w : ℕ × Text). not (is_notice w.1)) (in_line old) ((node, text) ∷ []) ∙ rw (before, plain) refl)
+plain_or_not old new text node (Ok false) put full err plain before = rw (full refl) before
+plain_or_not old new text node (Err e) put full err plain before = rw err before
 
 -- ---- `GoesOn`
 

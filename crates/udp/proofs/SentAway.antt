@@ -1,5 +1,5 @@
 -- Only what a port was asked to send leaves it.
-use Rattle.std.proofs.Common.{◌≡◌, ◌⊎◌, ⊎_elim, ◌∙◌, ◌++◌, ℕ, zero, suc, List, [], ◌∷◌, Option, None, Some, Result, Ok, Err, inl, inr, map, refl, sym, ap, subst, append_assoc, slice_get}
+use Rattle.std.proofs.Common.{◌≡◌, ◌⊎◌, ⊎_elim, ◌∙◌, ◌++◌, ℕ, zero, suc, List, [], ◌∷◌, Option, None, Some, Ok, Err, inl, inr, map, refl, sym, ap, subst, append_assoc}
 use Rattle.std.specs.List.Sorted.{IsPermutation}
 use Rattle.std.proofs.lemmas.Bool.{cases_eq}
 use Rattle.std.proofs.lemmas.List.{append-nil, map-append}
@@ -8,6 +8,7 @@ use Rattle.std.specs.declared.net.socket_addr.SocketAddr.{SocketAddr}
 use Rattle.faults.specs.Bytes.{Text}
 use Rattle.datagram_ports.specs.Calls.{Call, Received, Sent, WentThrough}
 use Rattle.datagram_ports.specs.Kept.{Parcel}
+use Rattle.udp.proofs.Notified.{IsSamePort-more, IsSamePort-same}
 use Rattle.udp.specs.Calls.{AreSentAway, DoesOverUdp, IsSamePort, LeavesWhatIsSent, Setup, out_of}
 use Rattle.udp.specs.Inbox.{came_as}
 use Rattle.udp.specs.Leaving.{IsLeft, texts_of}
@@ -18,12 +19,6 @@ use Rattle.udp.specs.declared.sockets.Way.{Way}
 use Rattle.udp.specs.declared.udp_port.UdpPort.{UdpPort}
 
 -- ---- the same port
-
-same_self : {C : Type 0} (p : UdpPort C) → IsSamePort p p
-same_self p = record { setup = refl; heard = refl; sent = refl }
-
-same_on : {C : Type 0} (a b c : UdpPort C) → IsSamePort a b → IsSamePort b c → IsSamePort a c
-same_on a b c p q = record { setup = q.setup ∙ p.setup; heard = q.heard ∙ p.heard; sent = q.sent ∙ p.sent }
 
 -- the texts sent away are the same by the seats and key before and after
 sent_before : {C : Type 0} (old new : UdpPort C) (calls : List Call) (texts : List Text) → IsSamePort old new
@@ -66,7 +61,7 @@ left_out waiting new handed now left =
     ∙ ap (λ (t : List Text). t ++ texts_of new) (sym left.2)) in
     subst (λ (l : List Text). IsPermutation (handed ++ texts_of waiting) l) same moved
 
-texts_in_line : (ws : List (Waiting Way)) → map (λ (x : Way × Text). x.1) (in_line ws) ≡ texts_of ws
+pub texts_in_line : (ws : List (Waiting Way)) → map (λ (x : Way × Text). x.1) (in_line ws) ≡ texts_of ws
 texts_in_line [] = refl
 texts_in_line (w ∷ ws) = ap (λ (t : List Text). w.bytes.items ∷ t) (texts_in_line ws)
 
@@ -80,7 +75,7 @@ leaves_text seats addresses from to text old new h =
     ∙ ap (λ (t : List Text). t ++ text ∷ []) (texts_in_line old)))
 
 -- if nothing was handed over or queued, these texts are unchanged
-out_same : {C : Type 0} (old new : UdpPort C) → new.handed.all ≡ old.handed.all
+pub out_same : {C : Type 0} (old new : UdpPort C) → new.handed.all ≡ old.handed.all
     → new.leaving.waiting.items ≡ old.leaving.waiting.items → out_of new ≡ out_of old
 out_same old new handed waiting =
     ap (λ (t : List Text). t ++ texts_of new.leaving.waiting.items) handed
@@ -104,7 +99,7 @@ nothing_more : {C : Type 0} (old between new : UdpPort C) (call : Call) (calls :
     → AreSentAway old.seats.items old.outbox.key (call ∷ calls) texts)
     → LeavesWhatIsSent between calls new → LeavesWhatIsSent old (call ∷ calls) new
 nothing_more old between new call calls same moved sends behind = record {
-  same = same_on old between new same behind.same;
+  same = IsSamePort-more old between new same behind.same;
   texts = behind.texts;
   sent = sends behind.texts (sent_before old between calls behind.texts same behind.sent);
   out = IsPermutation-trans (out_of old ++ behind.texts) (out_of between ++ behind.texts) (out_of new)
@@ -121,7 +116,7 @@ one_more_text old between new parcel u calls same none more behind =
     let joined : out_of between ++ behind.texts ≡ out_of old ++ text ∷ behind.texts =
     ap (λ (t : List Text). t ++ behind.texts) more ∙ append_assoc (out_of old) (text ∷ []) behind.texts in
     record {
-      same = same_on old between new same behind.same;
+      same = IsSamePort-more old between new same behind.same;
       texts = text ∷ behind.texts;
       sent = inr (none, (behind.texts, refl, sent_before old between calls behind.texts same behind.sent));
       out = subst (λ (l : List Text). IsPermutation l (out_of new)) joined behind.out;
@@ -136,7 +131,7 @@ pub leave_what_is_sent : {C : Type 0} (old new : UdpPort C) (calls : List Call) 
     → LeavesWhatIsSent old calls new
 leave_what_is_sent old new [] same =
     subst (λ (p : UdpPort _). LeavesWhatIsSent old [] p) (sym same) (record {
-      same = same_self old;
+      same = IsSamePort-same old;
       texts = [];
       sent = refl;
       out = subst (λ (l : List Text). IsPermutation l (out_of old)) (sym (append-nil (out_of old))) (IsPermutation-refl (out_of old));

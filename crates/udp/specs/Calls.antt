@@ -7,7 +7,9 @@ use Rattle.datagram_ports.specs.Kept.{Parcel}
 use Rattle.datagram_ports.specs.declared.fault.PortFault.{PortFault}
 use Rattle.udp.specs.Inbox.{came_as}
 use Rattle.udp.specs.Leaving.{IsLeft, texts_of}
+use Rattle.udp.specs.Notices.{NoticesGoOn}
 use Rattle.udp.specs.Ways.{HasNoSeat, HasWay, IsSeatOf, LeavesBy}
+use Rattle.udp.specs.declared.patience.Hurry.TheVariants.{Patient}
 use Rattle.udp.specs.declared.sockets.Seat.{Seat}
 use Rattle.udp.specs.declared.udp_port.UdpPort.{UdpPort}
 
@@ -21,6 +23,7 @@ pub record Setup : Type 0 where
   pub is_open : Bool
   pub front : Option (List ℕ)
 
+-- the port's configuration
 abbrev pub setup_of : {C : Type 0} → UdpPort C → Setup
 setup_of p = record {
   seats = p.seats.items;
@@ -30,15 +33,34 @@ setup_of p = record {
   front = p.front;
 }
 
--- It is the same port: its configuration and keys are unchanged.
+-- Nothing has happened to the port yet: nothing came, waits, was handed to the system, granted or
+-- offered, and a receive is patient.
+pub record IsEmpty {C : Type 0} (port : UdpPort C) : Type 0 where
+  pub came : port.inbox.came ≡ []
+  pub waiting : port.inbox.waiting ≡ []
+  pub notified : port.notices.came ≡ []
+  pub notices : port.notices.waiting ≡ []
+  pub leaving : port.leaving.waiting.items ≡ []
+  pub handed : port.handed.all ≡ []
+  pub granted : port.granted.all ≡ []
+  pub sends : port.sends ≡ 0
+  pub failures : port.failures ≡ 0
+  pub hurry : port.hurry ≡ Patient
+
+-- It is the same port: its configuration and keys are unchanged, and so is the listing that its
+-- notices are about.
 pub record IsSamePort {C : Type 0} (old new : UdpPort C) : Type 0 where
   pub setup : setup_of new ≡ setup_of old
   pub heard : new.inbox.key ≡ old.inbox.key
   pub sent : new.outbox.key ≡ old.outbox.key
+  pub noticed : new.notices.key ≡ old.notices.key
+  pub listing : new.notices.listing ≡ old.notices.listing
 
 -- Some of the queued datagrams were handed to the system, each once, and the others stay queued.
+-- Received notices were appended to theirs.
 pub record LetsLeave {C : Type 0} (old new : UdpPort C) : Type 0 where
   pub same : IsSamePort old new
+  pub notices : NoticesGoOn old.notices new.notices
   pub left : IsLeft old.leaving.waiting.items old.handed.all new.leaving.waiting.items
       new.handed.all
 
@@ -56,10 +78,12 @@ TakesIn old parcel (Ok u) new =
     → new.leaving.waiting.items ≡ old.leaving.waiting.items)
 TakesIn old parcel (Err f) new = new.leaving.waiting.items ≡ old.leaving.waiting.items
 
--- A datagram was offered, and none of the queued ones was handed to the system.
+-- A datagram was offered, and none of the queued ones was handed to the system. Received notices
+-- were appended to theirs.
 pub record IsOffered {C : Type 0} (old : UdpPort C) (parcel : Parcel)
     (answer : Result (Unit {0}) PortFault) (new : UdpPort C) : Type 0 where
   pub same : IsSamePort old new
+  pub notices : NoticesGoOn old.notices new.notices
   pub handed : new.handed.all ≡ old.handed.all
   pub taken : TakesIn old parcel answer new
 

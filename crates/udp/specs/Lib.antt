@@ -4,9 +4,12 @@ pub mod Ways
 pub mod Leaving
 pub mod Inbox
 pub mod Requests
+pub mod Notices
 pub mod Waiting
 pub mod Coming
 pub mod Outbox
 pub mod Calls
+pub mod Notifying
+pub mod Uses
 pub mod Tallies
 pub mod inside

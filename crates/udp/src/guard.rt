@@ -1,6 +1,7 @@
 //! Which datagrams a port accepts.
 ghost use Rattle.std.specs.Prelude.{◌≡◌, ◌+◌, ◌≤◌, None, Some, false, true};
 
+use crate::notice::Listing;
 use seals::{SEAL_SIZE, Seal};
 
 /// The maximum length of a datagram over IPv4, in bytes.
@@ -17,6 +18,8 @@ pub struct Guard {
     pub(crate) is_open: bool,
     /// The bytes that a request begins with, if repeated requests are dropped.
     pub(crate) front: Option<[u8; 5]>,
+    /// The listing that notices are about, if they are sent and read.
+    pub(crate) listing: Option<Listing>,
     ghost fits: { most ≤ 65507 },
 }
 
@@ -24,13 +27,14 @@ impl Guard {
     /// Accepts all datagrams, from any address.
     pub fn open() -> Guard
         ensures { (result.seal ≡ None) × (result.most ≡ 65507) × (result.is_open ≡ true)
-            × (result.front ≡ None) }
+            × (result.front ≡ None) × (result.listing ≡ None) }
     {
         Guard {
             seal: None,
             most: LONGEST,
             is_open: true,
             front: None,
+            listing: None,
         }
     }
 
@@ -38,13 +42,14 @@ impl Guard {
     pub fn unsealed(most: usize) -> Guard
         requires most { most ≤ 65507 }
         ensures { (result.seal ≡ None) × (result.most ≡ most) × (result.is_open ≡ false)
-            × (result.front ≡ None) }
+            × (result.front ≡ None) × (result.listing ≡ None) }
     {
         Guard {
             seal: None,
             most,
             is_open: false,
             front: None,
+            listing: None,
         }
     }
 
@@ -53,13 +58,14 @@ impl Guard {
     pub fn sealed(seal: Seal, most: usize) -> Guard
         requires most { most ≤ 65475 }
         ensures { (result.seal ≡ Some seal) × (result.most ≡ most + SEAL_SIZE)
-            × (result.is_open ≡ false) × (result.front ≡ None) }
+            × (result.is_open ≡ false) × (result.front ≡ None) × (result.listing ≡ None) }
     {
         Guard {
             seal: Some(seal),
             most: most + SEAL_SIZE,
             is_open: false,
             front: None,
+            listing: None,
         }
     }
 
@@ -77,12 +83,36 @@ impl Guard {
             most,
             is_open,
             front: _,
+            listing,
         } = self;
         Guard {
             seal,
             most,
             is_open,
             front: Some(front),
+            listing,
+        }
+    }
+
+    /// Sends and reads notices, too, about the units of the listing with this digest and this many
+    /// units. Without that no notice is sent, and all that come are dropped.
+    pub fn with_notices(self, digest: [u8; 32], units: u32) -> Guard
+        ensures { result ≡ record self
+            { listing = Some (record { digest = digest; units = units }) } }
+    {
+        let Guard {
+            seal,
+            most,
+            is_open,
+            front,
+            listing: _,
+        } = self;
+        Guard {
+            seal,
+            most,
+            is_open,
+            front,
+            listing: Some(Listing { digest, units }),
         }
     }
 }

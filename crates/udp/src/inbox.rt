@@ -1,9 +1,10 @@
 //! Received texts of this run.
-ghost use Rattle.std.specs.Prelude.{◌≡◌, ◌≢◌, ◌++◌, ◌∷◌, [], IfSome, List, MatchOption, None, option_map, option_to_list, true, ℕ};
+ghost use Rattle.std.specs.Prelude.{◌≡◌, ◌≢◌, ◌++◌, ◌∷◌, [], IfSome, IsSomeAnd, List, MatchOption, None, false, option_map, option_to_list, true, ℕ};
 ghost use Rattle.udp.specs.Inbox.{Takes, came_as, is_vouched_for};
+ghost use Rattle.udp.specs.Notices.{is_notice};
 
 use crate::line::{Line, Waiting};
-use crate::told::Told;
+use datagram_ports::Told;
 use seals::Seal;
 use std::alloc::Global;
 use std::marker::Model;
@@ -36,11 +37,11 @@ impl Model for Inbox {
 
     ghost Value = { InboxState };
 
-    ghost use Rattle.udp.specs.inside.Inbox.{AreVouchedFor, inbox_view};
+    ghost use Rattle.udp.specs.inside.Inbox.{IsSound, inbox_view};
 
     ghost view = { inbox_view };
 
-    ghost invariant = { AreVouchedFor };
+    ghost invariant = { IsSound };
 }
 
 impl Inbox {
@@ -60,6 +61,7 @@ impl Inbox {
 
     /// Takes bytes that came for the node.
     pub fn take(&mut self, node: u8, bytes: &[u8]) -> Came
+        requires plain { is_notice bytes.now ≡ false }
         ensures waits { result ≡ Waits → (text : List ℕ) × Takes self.old self.new bytes.now text
             × (self.new.waiting ≡ self.old.waiting ++ (node, text) ∷ []) }
         ensures lost { result ≡ Lost → (text : List ℕ) × Takes self.old self.new bytes.now text
@@ -68,7 +70,7 @@ impl Inbox {
             × ((text : List ℕ) → bytes.now ≢ came_as self.old.key text) }
         ensures never { result ≢ Repeated }
     {
-        let Some(text) = self.opened(bytes) else {
+        let Some(text) = self.text_in(bytes) else {
             return Came::Unsealed;
         };
         let is_put = self.come.put(self.alloc, node, text);
@@ -80,15 +82,12 @@ impl Inbox {
     }
 
     /// The text in these bytes, unless it has to be sealed and isn't.
-    fn opened<'b>(&self, bytes: &'b [u8]) -> Option<&'b [u8]>
+    fn text_in<'b>(&self, bytes: &'b [u8]) -> Option<&'b [u8]>
         ensures { MatchOption result
             ((text : List ℕ) → bytes.now ≢ came_as self.now.key text)
             (λ text. bytes.now ≡ came_as self.now.key text.now) }
     {
-        match &self.seal {
-            Some(seal) => seal.opened(bytes),
-            None => Some(bytes),
-        }
+        opened(&self.seal, bytes)
     }
 
     /// Whether no text is queued.
@@ -104,8 +103,23 @@ impl Inbox {
         ensures same { (self.new.key ≡ self.old.key) × (self.new.came ≡ self.old.came) }
         ensures vouched { IfSome result
             (λ came. is_vouched_for self.new.key self.new.came came.1.items ≡ true) }
+        ensures plain { IfSome result (λ came. is_notice came.1.items ≡ false) }
     {
         let Waiting { errand, bytes } = self.come.take_first()?;
         Some((errand, bytes))
+    }
+}
+
+/// The text in these bytes, unless it has to be sealed and isn't.
+pub fn opened<'b>(seal: &Option<Seal>, bytes: &'b [u8]) -> Option<&'b [u8]>
+    ensures exact { MatchOption result
+        ((text : List ℕ) → bytes.now ≢ came_as seal.now text)
+        (λ text. bytes.now ≡ came_as seal.now text.now) }
+    ensures back { (text : List ℕ) → bytes.now ≡ came_as seal.now text
+        → IsSomeAnd result (λ opened. opened.now ≡ text) }
+{
+    match seal {
+        Some(seal) => seal.opened(bytes),
+        None => Some(bytes),
     }
 }

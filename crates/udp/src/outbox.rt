@@ -1,5 +1,5 @@
 //! Sealing of texts to send.
-ghost use Rattle.std.specs.Prelude.{◌≡◌, None, OnOk, Some, option_map};
+ghost use Rattle.std.specs.Prelude.{◌≡◌, None, OnErr, OnOk, Some, option_map};
 ghost use Rattle.udp.specs.Inbox.{came_as};
 
 use faults::Memory;
@@ -45,8 +45,13 @@ impl Outbox {
     }
 
     /// Makes the bytes that encode the text.
+    ///
+    /// # Errors
+    ///
+    /// Out of memory. Then there are no bytes.
     pub fn make(&mut self, text: &[u8]) -> Result<(), Memory>
         ensures made { OnOk result (self.new.made ≡ Some (came_as self.old.key text.now)) }
+        ensures err { OnErr result (self.new.made ≡ None) }
         ensures key { self.new.key ≡ self.old.key }
     {
         if self.is_made && self.len <= self.last.len() && &self.last[..self.len] == text {

@@ -1,13 +1,16 @@
 //! The sockets of the nodes here.
-ghost use Rattle.std.specs.Prelude.{◌≡◌, ◌≢◌, ◌<◌, ◌≤◌, ◌↔◌, Err, IfErr, IfOk, IsTrue, MatchOption, Ok, false, length, true};
+ghost use Rattle.std.specs.Prelude.{◌≡◌, ◌≢◌, ◌<◌, ◌≤◌, ◌↔◌, Err, IfErr, IfOk, IsTrue, MatchOption, Ok, false, length, true, ℕ};
 ghost use Rattle.std.specs.List.{Contains};
 ghost use Rattle.udp.specs.Coming.{Became, HasCome, IsHeardOrLost, IsStrange};
 ghost use Rattle.udp.specs.Inbox.{GoesOn};
+ghost use Rattle.udp.specs.Notices.{BecameNotice, MayNotify, NoticesGoOn, is_notice};
 ghost use Rattle.udp.specs.Refusals.{CannotStart};
 ghost use Rattle.udp.specs.Requests.{is_repeat, is_request, known_after};
 ghost use Rattle.udp.specs.Ways.{HasNoSeat, HasNoWay, IsSeatOf, IsWay};
 
 use crate::inbox::{Came, Inbox};
+use crate::notice::{Notice, is_notice};
+use crate::notices::Notices;
 use crate::requests::{Request, Requests, request_in};
 use crate::tallies::Tallies;
 use datagram_ports::PortFault;
@@ -42,6 +45,8 @@ pub struct Way {
 /// Which datagrams are accepted.
 #[derive(Clone, Copy)]
 pub struct Sieve<'a> {
+    /// The seats of the nodes here.
+    pub seats: &'a [Seat],
     /// The addresses where the members' nodes listen, by member number.
     pub members: &'a [SocketAddr],
     /// The maximum length of an accepted datagram, in bytes.
@@ -96,6 +101,17 @@ pub fn seat_of(seats: &[Seat], node: u8) -> Option<usize>
     seats.iter().position(|seat| seat.node == node)
 }
 
+/// Whether the node has a seat.
+pub fn has_seat(seats: &[Seat], node: u8) -> bool
+    ensures some { result ≡ true → (place : ℕ) × IsSeatOf seats.now node place }
+    ensures none { result ≡ false → HasNoSeat seats.now node }
+{
+    match seat_of(seats, node) {
+        Some(_) => true,
+        None => false,
+    }
+}
+
 /// The way from one node to the other, if there is one.
 pub fn way_of(seats: &[Seat], addresses: &[SocketAddr], from: u8, to: u8) -> Option<Way>
     ensures { MatchOption result (HasNoWay seats.now addresses.now from to)
@@ -126,35 +142,38 @@ fn member_at(members: &[SocketAddr], from: &SocketAddr) -> Option<usize> {
 
 /// Takes received datagrams off the sockets, and returns whether a socket failed.
 pub fn take_off(
-    seats: &[Seat],
     sieve: Sieve<'_>,
     buffer: &mut [u8],
     inbox: &mut Inbox,
     requests: &mut Requests,
+    notices: &mut Notices,
     tallies: &mut Tallies,
 ) -> bool
-    ensures { GoesOn inbox.old inbox.new }
+    ensures goes_on { GoesOn inbox.old inbox.new }
+    ensures notices { NoticesGoOn notices.old notices.new }
 {
     let mut has_failed = false;
-    for seat in seats {
-        has_failed = take_all(seat, sieve, buffer, inbox, requests, tallies) || has_failed;
+    for seat in sieve.seats {
+        has_failed = take_all(seat, sieve, buffer, inbox, requests, notices, tallies) || has_failed;
     }
     has_failed
 }
 
 /// Takes received datagrams off the seat's socket, and returns whether the socket failed. A
 /// datagram that isn't a member's text is counted and dropped. A text is lost if there is no room
-/// or memory for it, and a repeated request is dropped.
+/// or memory for it, and a repeated request is dropped. A notice is never for a node.
 fn take_all(
     seat: &Seat,
     sieve: Sieve<'_>,
     buffer: &mut [u8],
     inbox: &mut Inbox,
     requests: &mut Requests,
+    notices: &mut Notices,
     tallies: &mut Tallies,
 ) -> bool
     ensures come { HasCome seat.now.node inbox.old inbox.new }
     ensures goes_on { GoesOn inbox.old inbox.new }
+    ensures notices { NoticesGoOn notices.old notices.new }
 {
     let mut left = BYTES_AT_A_LOOK;
     for _ in 0..TAKEN_AT_A_LOOK {
@@ -165,7 +184,9 @@ fn take_all(
             Ok((count, from)) => {
                 left = left.saturating_sub(count);
                 let bytes = &buffer[..count];
-                take_one(seat.node, bytes, &from, sieve, inbox, requests, tallies);
+                take_one(
+                    seat.node, bytes, &from, sieve, inbox, requests, notices, tallies,
+                );
             }
             Err(error) => return is_failure(error.kind()),
         }
@@ -175,7 +196,7 @@ fn take_all(
 
 /// Takes bytes that came from this address for the node. It tests their length first, then that
 /// they are from a member, and then the seal.
-#[tactic(auto, using(crate::proofs::InboxLemmas::goes_on_still))]
+#[tactic(auto, using(crate::proofs::InboxLemmas::goes_on_still, crate::proofs::NoticeLemmas::kept))]
 fn take_one(
     node: u8,
     bytes: &[u8],
@@ -183,19 +204,31 @@ fn take_one(
     sieve: Sieve<'_>,
     inbox: &mut Inbox,
     requests: &mut Requests,
+    notices: &mut Notices,
     tallies: &mut Tallies,
 )
     ensures heard { IsHeardOrLost node bytes.now inbox.old inbox.new }
     ensures goes_on { GoesOn inbox.old inbox.new }
-    ensures long { sieve.entry.most < length bytes.now → inbox.new ≡ inbox.old }
+    ensures notices_go_on { NoticesGoOn notices.old notices.new }
+    ensures long { sieve.entry.most < length bytes.now → (inbox.new ≡ inbox.old)
+        × (notices.new ≡ notices.old) }
     ensures strange { sieve.entry.is_open ≡ false
-        → IsStrange sieve.entry.members.now from.now → inbox.new ≡ inbox.old }
+        → IsStrange sieve.entry.members.now from.now → (inbox.new ≡ inbox.old)
+        × (notices.new ≡ notices.old) }
 
-    // A member's datagram that isn't a request is always taken.
+    // A member's datagram that is neither a notice nor a request is always taken.
     ensures taken { length bytes.now ≤ sieve.entry.most
-        → Contains sieve.entry.members.now from.now
+        → Contains sieve.entry.members.now from.now → is_notice bytes.now ≡ false
         → is_request sieve.entry.front bytes.now ≡ false
         → (came : Came) × Became node bytes.now false inbox.old inbox.new came }
+
+    // A notice is never for a node, and nothing else is a notice.
+    ensures apart { is_notice bytes.now ≡ true → inbox.new ≡ inbox.old }
+    ensures other { is_notice bytes.now ≡ false → notices.new ≡ notices.old }
+    ensures noticed { length bytes.now ≤ sieve.entry.most
+        → Contains sieve.entry.members.now from.now → is_notice bytes.now ≡ true
+        → (came : Came) × BecameNotice sieve.entry.seats.now sieve.entry.members.now
+        sieve.entry.is_open from.now bytes.now notices.old notices.new came }
 {
     if bytes.len() > sieve.most {
         tallies.note_strange();
@@ -203,6 +236,10 @@ fn take_one(
     }
     if !may_come(sieve, from) {
         tallies.note_strange();
+        return;
+    }
+    if is_notice(bytes) {
+        take_noticed(bytes, from, sieve, notices, tallies);
         return;
     }
     match member_at(sieve.members, from) {
@@ -218,6 +255,56 @@ fn take_one(
     }
 }
 
+/// Takes bytes that begin as a notice does and came from this address, and counts them.
+fn take_noticed(
+    bytes: &[u8],
+    from: &SocketAddr,
+    sieve: Sieve<'_>,
+    notices: &mut Notices,
+    tallies: &mut Tallies,
+)
+    ensures goes_on { NoticesGoOn notices.old notices.new }
+    ensures became { (came : Came) × BecameNotice sieve.entry.seats.now sieve.entry.members.now
+        sieve.entry.is_open from.now bytes.now notices.old notices.new came }
+{
+    let came = take_notice(bytes, from, sieve, notices);
+    match member_at(sieve.members, from) {
+        Some(member) => tallies.note(member, came),
+        None => tallies.note_strange(),
+    }
+}
+
+/// Takes bytes that begin as a notice does and came from this address.
+fn take_notice(bytes: &[u8], from: &SocketAddr, sieve: Sieve<'_>, notices: &mut Notices) -> Came
+    ensures { BecameNotice sieve.entry.seats.now sieve.entry.members.now sieve.entry.is_open
+        from.now bytes.now notices.old notices.new result }
+{
+    let notice = match notices.read(bytes) {
+        Ok(notice) => notice,
+        Err(came) => return came,
+    };
+    if !may_notify(sieve, from, notice) {
+        return Came::Unsealed;
+    }
+    notices.put(notice, bytes)
+}
+
+/// Whether the notice may come from this address.
+fn may_notify(sieve: Sieve<'_>, from: &SocketAddr, notice: Notice) -> bool
+    ensures yes { result ≡ true → MayNotify sieve.entry.seats.now sieve.entry.members.now
+        sieve.entry.is_open from.now notice }
+    ensures no { result ≡ false → ¬ (MayNotify sieve.entry.seats.now sieve.entry.members.now
+        sieve.entry.is_open from.now notice) }
+{
+    if has_seat(sieve.seats, notice.member) {
+        return false;
+    }
+    match sieve.members.get(notice.member as usize) {
+        Some(address) => sieve.is_open || *address == *from,
+        None => false,
+    }
+}
+
 /// Takes bytes that came from a member's address for the node, and may be a request. A repeated
 /// request is dropped. All other bytes are taken as usual.
 #[tactic(auto, using(crate::proofs::InboxLemmas::goes_on_still))]
@@ -228,6 +315,7 @@ fn take_from(
     inbox: &mut Inbox,
     requests: &mut Requests,
 ) -> Came
+    requires plain { is_notice bytes.now ≡ false }
     ensures became { Became node bytes.now (is_repeat request requests.old.known.items)
         inbox.old inbox.new result }
     ensures dropped { is_repeat request requests.old.known.items ≡ true
@@ -252,6 +340,7 @@ fn take_from(
 
 /// Takes bytes that came for the node, if they are a text of this run.
 fn take_bytes(node: u8, bytes: &[u8], inbox: &mut Inbox) -> Came
+    requires plain { is_notice bytes.now ≡ false }
     ensures became { Became node bytes.now false inbox.old inbox.new result }
     ensures heard { IsHeardOrLost node bytes.now inbox.old inbox.new }
     ensures goes_on { GoesOn inbox.old inbox.new }

@@ -11,7 +11,7 @@ use std::time::Instant;
 /// The counts for one member. They saturate.
 #[derive(Clone, Copy, PartialEq, Eq)]
 pub struct Tally {
-    /// Datagrams from its address that are texts of this run.
+    /// Datagrams from its address that are texts of this run, notices included.
     pub heard: u64,
     /// When the last of them came, if one did and the clock could be read.
     pub last: Option<Instant>,
@@ -20,7 +20,8 @@ pub struct Tally {
     pub unsealed: u64,
     /// Repeated requests from its address, which were dropped.
     pub repeats: u64,
-    /// Datagrams to it that were lost because the system didn't take them.
+    /// Datagrams to it that were lost because the system didn't take them, and notices to it that
+    /// were lost because there was no room or memory for them.
     pub unsent: u64,
 }
 

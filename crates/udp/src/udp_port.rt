@@ -1,27 +1,33 @@
 //! Ports over UDP.
-ghost use Rattle.std.specs.Prelude.{◌≡◌, ◌<◌, [], IfErr, IfOk, IfSome, None, OnErr, OnOk, length, true};
+ghost use Rattle.std.specs.Prelude.{◌≡◌, ◌<◌, ◌++◌, [], IfErr, IfOk, IfSome, None, OnErr, OnOk, false, length, option_to_list, true};
 ghost use Rattle.datagram_ports.specs.Calls.{Received, Sent, told};
+ghost use Rattle.datagram_ports.specs.Granted.{DoesAsBefore, IsGranted};
 ghost use Rattle.datagram_ports.specs.Kept.{counted, one_more};
-ghost use Rattle.udp.specs.Calls.{DoesOverUdp};
+ghost use Rattle.udp.specs.Calls.{DoesOverUdp, IsEmpty};
 ghost use Rattle.udp.specs.Inbox.{StillVouches, came_as, is_vouched_for};
 ghost use Rattle.udp.specs.Leaving.{IsLeft};
+ghost use Rattle.udp.specs.Notices.{NoticesGoOn, is_heard, is_notice};
+ghost use Rattle.udp.specs.Notifying.{HasNotified, Notifies};
 ghost use Rattle.udp.specs.Refusals.{CannotStart};
 ghost use Rattle.udp.specs.Ways.{AreInOrder, HasNoSeat, HasWay, IsSeatOf, LeavesBy};
 
 mod coming;
 mod leaving;
+mod notifying;
 
 use crate::addresses::local;
 use crate::guard::Guard;
 use crate::inbox::Inbox;
 use crate::line::Line;
+use crate::notice::{Notice, text_of};
+use crate::notices::Notices;
 use crate::outbox::Outbox;
 use crate::patience::{Hurry, Patience};
 use crate::requests::Requests;
 use crate::sockets::{Seat, Way, address_of, take_seat};
 use crate::tallies::Tallies;
-use crate::told::Told;
-use datagram_ports::{Port, PortFault};
+use crate::udp_port::notifying::notify_each;
+use datagram_ports::{Port, PortFault, Told, Warrant};
 use seals::Seal;
 use std::alloc::Global;
 use std::net::{Net, SocketAddr};
@@ -39,7 +45,7 @@ const MOST_LEAVING: usize = 2_048;
 /// datagram that is sent to a node here, and wait there for a receive. Datagrams for nodes of other
 /// processes leave a few at a time and out of order, so that pieces which are sent again aren't
 /// lost at the same place again. A datagram that the system doesn't take at the moment stays
-/// queued.
+/// queued. Received notices have a queue of their own.
 #[derive(Drop)]
 pub struct UdpPort<'c, C: Clock> {
     clock: &'c C,
@@ -56,10 +62,13 @@ pub struct UdpPort<'c, C: Clock> {
     buffer: Vec<u8>,
     inbox: Inbox,
     requests: Requests,
+    notices: Notices,
     outbox: Outbox,
     leaving: Line<Way>,
     /// What left the queue and was handed to the system.
     handed: Told,
+    /// What may be sent.
+    granted: Told,
     /// Picks the next datagram to leave.
     pick: usize,
     patience: Patience,
@@ -89,6 +98,7 @@ impl<'c, C: Clock> UdpPort<'c, C> {
             × (length port.addresses.items ≡ members)) }
         ensures unsealed { IfOk result (λ port. (port.inbox.key ≡ None)
             × (port.outbox.key ≡ None)) }
+        ensures empty { IfOk result IsEmpty }
         ensures refused { IfErr result CannotStart }
     {
         UdpPort::together_behind(rt, clock, alloc, members, Guard::open())
@@ -114,6 +124,9 @@ impl<'c, C: Clock> UdpPort<'c, C> {
             × (port.outbox.key ≡ guard.seal)) }
         ensures guard { IfOk result (λ port. (port.most ≡ guard.most)
             × (port.is_open ≡ guard.is_open) × (port.front ≡ guard.front)) }
+        ensures notices { IfOk result (λ port. (port.notices.key ≡ guard.seal)
+            × (port.notices.listing ≡ guard.listing)) }
+        ensures empty { IfOk result IsEmpty }
         ensures refused { IfErr result CannotStart }
     {
         let mut seats = Vec::with_capacity(alloc, members as usize)?;
@@ -148,6 +161,7 @@ impl<'c, C: Clock> UdpPort<'c, C> {
         ensures addresses { IfOk result (λ port. port.addresses ≡ addresses) }
         ensures unsealed { IfOk result (λ port. (port.inbox.key ≡ None)
             × (port.outbox.key ≡ None)) }
+        ensures empty { IfOk result IsEmpty }
         ensures refused { IfErr result CannotStart }
     {
         UdpPort::alone_behind(rt, clock, alloc, addresses, me, patience, Guard::open())
@@ -175,6 +189,9 @@ impl<'c, C: Clock> UdpPort<'c, C> {
             × (port.outbox.key ≡ guard.seal)) }
         ensures guard { IfOk result (λ port. (port.most ≡ guard.most)
             × (port.is_open ≡ guard.is_open) × (port.front ≡ guard.front)) }
+        ensures notices { IfOk result (λ port. (port.notices.key ≡ guard.seal)
+            × (port.notices.listing ≡ guard.listing)) }
+        ensures empty { IfOk result IsEmpty }
         ensures refused { IfErr result CannotStart }
     {
         let mut seats = Vec::with_capacity(alloc, 1)?;
@@ -192,6 +209,40 @@ impl<'c, C: Clock> UdpPort<'c, C> {
         ensures { self.new ≡ record self.old { hurry = hurry } }
     {
         self.hurry = hurry;
+    }
+
+    /// Sends the notice to each other member, if its sender's node is here and the port has a
+    /// listing. It may get lost. Then it counts as unsent to that member.
+    pub fn send_notice(&mut self, notice: Notice)
+        ensures sent { Notifies self.old notice self.new }
+        ensures notified { HasNotified self.old self.new }
+    {
+        let Some(listing) = self.notices.listing() else {
+            return;
+        };
+        let text = text_of(&listing.digest, notice);
+        // if memory runs out, there are no bytes
+        let _made = self.outbox.make(text.as_slice());
+        let bytes = self.outbox.bytes();
+        notify_each(
+            self.alloc,
+            &self.seats,
+            &self.addresses,
+            notice.member,
+            bytes,
+            &mut self.leaving,
+            &mut self.tallies,
+        );
+    }
+
+    /// Takes the first notice that came and wasn't taken.
+    pub fn take_notice(&mut self) -> Option<Notice>
+        ensures first { self.old.notices.waiting
+            ≡ option_to_list result ++ self.new.notices.waiting }
+        ensures heard { IfSome result (λ notice. is_heard self.new.notices notice ≡ true) }
+        ensures notified { HasNotified self.old self.new }
+    {
+        self.notices.take_first()
     }
 
     /// The number of datagrams offered so far, including those that weren't accepted. It saturates.
@@ -218,15 +269,15 @@ fn port_of<'c, C: Clock>(
     patience: Patience,
     guard: Guard,
 ) -> Result<UdpPort<'c, C>, PortFault>
-    ensures fresh { IfOk result (λ port. (port.failures ≡ 0) × (port.sends ≡ 0)
-        × (port.hurry ≡ Hurry.Patient)) }
+    ensures empty { IfOk result IsEmpty }
     ensures seats { IfOk result (λ port. port.seats ≡ seats) }
     ensures addresses { IfOk result (λ port. port.addresses ≡ addresses) }
-    ensures leaving { IfOk result (λ port. port.leaving.waiting.items ≡ []) }
     ensures sealed { IfOk result (λ port. (port.inbox.key ≡ guard.seal)
         × (port.outbox.key ≡ guard.seal)) }
     ensures guard { IfOk result (λ port. (port.most ≡ guard.most)
         × (port.is_open ≡ guard.is_open) × (port.front ≡ guard.front)) }
+    ensures notices { IfOk result (λ port. (port.notices.key ≡ guard.seal)
+        × (port.notices.listing ≡ guard.listing)) }
     ensures refused { IfErr result CannotStart }
 {
     let Guard {
@@ -234,9 +285,11 @@ fn port_of<'c, C: Clock>(
         most,
         is_open,
         front,
+        listing,
     } = guard;
     let tallies = Tallies::new(alloc, addresses.len())?;
     let requests = Requests::new(alloc)?;
+    let notices = Notices::new(alloc, copy_of(&seal), listing);
     let outbox = Outbox::new(alloc, copy_of(&seal));
     Ok(UdpPort {
         clock,
@@ -251,9 +304,11 @@ fn port_of<'c, C: Clock>(
         buffer: vec![in alloc; 0; most + 1]?,
         inbox: Inbox::new(alloc, seal, MOST_COME),
         requests,
+        notices,
         outbox,
         leaving: Line::new(alloc, MOST_LEAVING),
         handed: Told::new(),
+        granted: Told::new(),
         pick: 0,
         patience,
         hurry: Hurry::Patient,
@@ -284,6 +339,8 @@ impl<'c, C: Clock> Port for UdpPort<'c, C> {
 
     ghost vouches = { λ p text. is_vouched_for p.inbox.key p.inbox.came text ≡ true };
 
+    ghost may_send = { λ p text. IsGranted p.granted.all text };
+
     fn receive(&mut self) -> Result<Option<(u8, Vec<u8>)>, PortFault>
         ensures cause { self.new.failures ≡ counted result self.old.failures }
 
@@ -292,6 +349,10 @@ impl<'c, C: Clock> Port for UdpPort<'c, C> {
         // The received bytes encode this text under the seal.
         ensures vouched { IfOk result (λ o. IfSome o
             (λ d. is_vouched_for self.new.inbox.key self.new.inbox.came d.1.items ≡ true)) }
+
+        // A notice is never handed to a node.
+        ensures plain { IfOk result (λ o. IfSome o (λ d. is_notice d.1.items ≡ false)) }
+        ensures notices_go_on { NoticesGoOn self.old.notices self.new.notices }
         ensures vouches_on { StillVouches self.old.inbox self.new.inbox }
         ensures seal_stays { (self.new.inbox.key ≡ self.old.inbox.key)
             × (self.new.outbox.key ≡ self.old.outbox.key) }
@@ -311,8 +372,20 @@ impl<'c, C: Clock> Port for UdpPort<'c, C> {
         }
     }
 
+    fn grant<W: Warrant>(&mut self, warrant: &W, bytes: &[u8])
+        requires { W.covers warrant.now bytes.now }
+        ensures granted { IsGranted self.new.granted.all bytes.now }
+        ensures does { DoesAsBefore DoesOverUdp self.old self.new }
+        ensures vouches_on { StillVouches self.old.inbox self.new.inbox }
+        ensures same { self.new ≡ record self.old { granted = self.new.granted } }
+    {
+        self.granted.note(bytes);
+    }
+
     fn send(&mut self, from: u8, to: u8, bytes: &[u8]) -> Result<(), PortFault>
+        requires { IsGranted self.old.granted.all bytes.now }
         ensures cause { self.new.failures ≡ counted result self.old.failures }
+        ensures notices_go_on { NoticesGoOn self.old.notices self.new.notices }
         ensures vouches_on { StillVouches self.old.inbox self.new.inbox }
         ensures seal_stays { (self.new.inbox.key ≡ self.old.inbox.key)
             × (self.new.outbox.key ≡ self.old.outbox.key) }

@@ -26,5 +26,6 @@ port_view p = record {
   waiting = map waiting_view p.waiting.items;
   given = kept_if p.has_given (map given_view p.given.items);
   offered = kept_if p.has_offered (map sending_view p.offered.items);
+  granted = p.granted.all;
   failures = p.failures;
 }

@@ -1,4 +1,4 @@
--- Steps of a run that tells its events.
+-- Steps of a run that prints its events.
 use Rattle.std.specs.Prelude.{◌≡◌, ◌⊎◌, ◌+◌, ◌++◌, [], ◌∷◌, None, Some, length}
 use Rattle.faults.specs.Bytes.{Text}
 use Rattle.protocol.specs.Events.{Event}

@@ -1,5 +1,5 @@
 -- The parts of a turn: what is chosen is prepared, and then taken.
-use Rattle.std.specs.Prelude.{◌≡◌, ◌⊎◌, true, List, [], ◌∷◌, Option, None, Some, Result, Ok, Err}
+use Rattle.std.specs.Prelude.{◌≡◌, ◌⊎◌, true, [], ◌∷◌, Option, None, Some, Result, Ok, Err}
 use Rattle.ballots.specs.declared.message.Note.{Note}
 use Rattle.turn_rules.specs.Choice.{Chosen}
 use Rattle.turn_rules.specs.Pending.{Pending, kept_after}
@@ -17,14 +17,15 @@ use Rattle.turn_rules.specs.Calls.{came_by}
 use Rattle.turn_rules.specs.Offered.{WasOffered, parcels_from}
 use Rattle.turn_rules.specs.CausedSteps.{IsCausedStep}
 use Rattle.turn_rules.specs.declared.caused_step.CausedStep.{CausedStep}
-use Rattle.datagram_ports.specs.Calls.{Call, Received}
-use Rattle.datagram_ports.specs.Kept.{Arrived, GoesOnBy, Parcel}
+use Rattle.datagram_ports.specs.Calls.{Received}
+use Rattle.datagram_ports.specs.Kept.{Arrived, GoesOnBy}
 use Rattle.datagram_ports.specs.declared.fault.PortFault.{PortFault}
 use Rattle.lone_node.specs.Handed.{Handed}
 use Rattle.protocol.specs.State.{Value}
 use Rattle.stable_record.specs.declared.log_fault.LogFault.TheVariants as log
 use Rattle.lone_node.specs.State.{SoloState, me_of}
 use Rattle.lone_node.specs.Turn.{IsChosen, IsVouchedFor}
+use Rattle.datagram_ports.specs.declared.port.Port.{Ghosts as Port}
 
 -- the state with these parts
 abbrev pub solo_of : {D P : Type 0} → LoggedNode D → Pending → P → SoloState D P
@@ -38,20 +39,18 @@ IsMade n (Some x) None = ⊥
 IsMade n (Some x) (Some r) = (x.0 ≡ n.node.member.me) × IsCausedStep n x.1 r
 
 -- A receive returned this.
-pub record HasCome {P : Type 0} (given : P → Option (List Arrived)) (does : P → Call → P → Type 0)
-    (vouches : P → Text → Type 0) (old new : P) (came : Arrived) : Type 0 where
+pub record HasCome {P : Type 0} (port : Port P) (old new : P) (came : Arrived) : Type 0 where
   pub answer : Result Arrived PortFault
   pub gave : came_by answer ≡ came
-  pub kept : GoesOnBy (came ∷ []) (given old) (given new)
-  pub call : does old (Received answer) new
-  pub vouched : IsVouchedFor vouches new came
+  pub kept : GoesOnBy (came ∷ []) (port.given old) (port.given new)
+  pub call : port.does old (Received answer) new
+  pub vouched : IsVouchedFor port new came
 
 -- The turn's choice was prepared. Nothing was offered yet, and the node is unchanged.
-pub record HasChosen {D P : Type 0} (given : P → Option (List Arrived))
-    (does : P → Call → P → Type 0) (vouches : P → Text → Type 0) (old new : SoloState D P)
+pub record HasChosen {D P : Type 0} (port : Port P) (old new : SoloState D P)
     (handed : Handed) (r : Option CausedStep) : Type 0 where
   pub chosen : Chosen
-  pub is_chosen : IsChosen given does vouches old new handed [] chosen
+  pub is_chosen : IsChosen port old new handed [] chosen
   pub made : IsMade old.node chosen r
   pub same : new.node ≡ old.node
 
@@ -75,16 +74,16 @@ pub record IsNotTaken {D : Type 0} (old new : LoggedNode D) (chosen : Chosen) (f
   pub leaves : new.node ≡ left_by old.node (Comes text) refusal
 
 -- The prepared step was taken, and exactly its sends were offered.
-pub record TookStep {D P : Type 0} (offered : P → Option (List Parcel))
-    (does : P → Call → P → Type 0) (old new : SoloState D P) (asked : Asked) : Type 0 where
+pub record TookStep {D P : Type 0} (port : Port P) (old new : SoloState D P) (asked : Asked)
+    : Type 0 where
   pub taken : Taken
   pub takes : Takes old.node.node asked (Ok taken)
   pub room : ¬ IsFull old.node.node taken.answer.note
   pub node : new.node.node ≡ after old.node.node taken
   pub pending : new.pending ≡ kept_after old.pending (me_of old) old.node.node.member asked
   pub offers : GoesOnBy (parcels_from (me_of old) (datagrams_to taken.answer.sends))
-      (offered old.port) (offered new.port)
-  pub calls : WasOffered does old.port
+      (port.offered old.port) (port.offered new.port)
+  pub calls : WasOffered port.does old.port
       (parcels_from (me_of old) (datagrams_to taken.answer.sends)) new.port
 
 -- Why a prepared step with this note was not taken, and what state that leaves the node in.

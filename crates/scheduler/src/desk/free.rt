@@ -2,17 +2,18 @@
 ghost use Rattle.std.specs.Prelude.{◌≡◌, ◌<◌, ◌||◌, Some, is_some, length, max, min, nat_eq, option_map};
 ghost use Rattle.std.specs.Duration.{as_nanos};
 ghost use Rattle.turn_rules.specs.Own.{is_barred};
-ghost use Rattle.scheduler.specs.Wishing.{IsLeastOf, above_for, back_at, barred_at, is_in_turn, is_left, is_other, passed_at, slots, takeover_and_slots, turn_by, turn_now};
+ghost use Rattle.scheduler.specs.Wishing.{IsLeastOf, above_for, back_at, barred_at, is_given_up, is_in_turn, is_left, is_other, may_begin, passed_at, slots, takeover_and_slots, turn_by, turn_now};
 ghost use Rattle.engine.specs.Division.{number_of};
 ghost use Rattle.indexmap.specs.IndexMap.{get};
 ghost use Rattle.protocol.specs.State.{facts_at};
 
 use crate::desk::Desk;
+use crate::failures::count_at;
 use crate::heard::GivenBack;
 use crate::pace::has_waited;
 use crate::posted::is_among;
 use crate::sought::Sought;
-use crate::wishing::{is_mine, promised, turn_after, turn_of};
+use crate::wishing::{is_for, is_mine, promised, turn_after, turn_of};
 use crate::{is_away, is_spent};
 use member::Member;
 use std::time::{Duration, Instant};
@@ -62,7 +63,7 @@ impl Desk<'_> {
         requires { unit < length member.now.division.units }
         ensures { result ≡ passed_at self.now member.now at sought unit }
     {
-        self.is_other(member, unit, sought) || self.is_barred(member, unit, at)
+        self.is_other(member, unit, sought) || self.is_barred(member, unit, at, sought)
     }
 
     /// Whether the unit isn't looked for.
@@ -78,24 +79,47 @@ impl Desk<'_> {
     }
 
     /// Whether the unit may not be claimed.
-    fn is_barred(&self, member: &Member<'_>, unit: u32, at: Option<Instant>) -> bool
+    fn is_barred(&self, member: &Member<'_>, unit: u32, at: Option<Instant>, sought: Sought) -> bool
         requires { unit < length member.now.division.units }
-        ensures { result ≡ barred_at self.now member.now at unit }
+        ensures { result ≡ barred_at self.now member.now at sought unit }
     {
         is_among(self.out.as_slice(), unit)
             || self.failed.contains_key(&unit)
+            || self.is_given_up(member, unit)
             || is_spent(member, unit)
-            || self.is_left(member, unit, at)
+            || self.is_left(member, unit, at, sought)
+    }
+
+    /// Whether nobody claims the unit any more, since its builds failed at as many members as it
+    /// may be tried at. The claim that is open goes on.
+    fn is_given_up(&self, member: &Member<'_>, unit: u32) -> bool
+        ensures { result ≡ is_given_up self.now member.now unit }
+    {
+        !is_for(member, unit) && count_at(&self.failed_elsewhere, unit) >= self.pace.tries as usize
     }
 
     /// Whether the unit is left to other members.
-    fn is_left(&self, member: &Member<'_>, unit: u32, at: Option<Instant>) -> bool
+    fn is_left(&self, member: &Member<'_>, unit: u32, at: Option<Instant>, sought: Sought) -> bool
         requires { unit < length member.now.division.units }
-        ensures { result ≡ is_left self.now member.now at unit }
+        ensures { result ≡ is_left self.now member.now at sought unit }
     {
         match at {
-            Some(now) => self.is_named(member, unit, now) || !self.is_in_turn(member, unit, now),
+            Some(now) => {
+                self.is_named(member, unit, now) || !self.may_begin(member, unit, now, sought)
+            }
             None => false,
+        }
+    }
+
+    /// Whether this member needn't wait for others to claim the unit: it was its own before its
+    /// start, or it is its turn.
+    fn may_begin(&self, member: &Member<'_>, unit: u32, now: Instant, sought: Sought) -> bool
+        requires { unit < length member.now.division.units }
+        ensures { result ≡ may_begin self.now member.now now sought unit }
+    {
+        match sought {
+            Sought::Mine => true,
+            Sought::Any | Sought::InTurn(_) => self.is_in_turn(member, unit, now),
         }
     }
 
@@ -151,8 +175,9 @@ impl Desk<'_> {
     }
 
     /// Above which round the unit is claimed, besides what the member promised: the round that a
-    /// nay named; and the first round, if the unit was queued while this node was up. So a node
-    /// that starts late and claims it at round 1 gets a nay, whichever number it has.
+    /// nay named; and the first round, unless others may have claimed the unit before this node's
+    /// start. So a node that starts late and claims it at round 1 gets a nay, whichever number it
+    /// has.
     pub(crate) fn above_for(&self, unit: u32) -> u64
         ensures { result ≡ above_for self.now unit }
     {

@@ -1,15 +1,16 @@
 //! What a desk keeps of what others said of units.
 ghost use Rattle.std.specs.Prelude.{◌≡◌, ◌<◌, ◌==◌, ◌&&◌, None, OnErr, OnOk, Some, if◌then◌else◌, length, nat_eq, not, ℕ};
 ghost use Rattle.std.specs.Duration.{as_nanos};
-ghost use Rattle.ballots.specs.declared.message.Body.TheVariants.{Ask, Nay};
-ghost use Rattle.scheduler.specs.Hearing.{Hears, HearsMessage, back_after, given_by, is_named_of, named_after, put, with_back};
-ghost use Rattle.scheduler.specs.Keeping.{IsSameButHeard};
+ghost use Rattle.ballots.specs.declared.message.Body.TheVariants.{Ask, Nay, Offer};
+ghost use Rattle.scheduler.specs.Hearing.{Hears, HearsMessage, back_after, failures_after, given_by, is_named_of, named_after, put, with_back};
+ghost use Rattle.scheduler.specs.Keeping.{IsNothingHeard, IsSameButHeard};
 ghost use Rattle.scheduler.specs.Waiting.{back_of, has_waited, is_named, round_named, since_promised};
 ghost use Rattle.engine.specs.Division.{number_found};
 ghost use Rattle.indexmap.specs.IndexMap.{get};
 ghost use Rattle.protocol.specs.State.{facts_at};
 
 use crate::desk::Desk;
+use crate::failures::remove_claimer;
 use crate::heard::{GivenBack, Named};
 use crate::pace::is_over;
 use crate::seen::is_same_promise;
@@ -31,7 +32,7 @@ impl Desk<'_> {
     ///
     /// A question from the member whose claim this one promised last gives the unit back, since
     /// nobody asks for what it builds. A nay that names another member's claim says that the unit
-    /// is that member's.
+    /// is that member's. A member that offers a claim tries the unit again if its build failed.
     ///
     /// # Errors
     ///
@@ -44,8 +45,7 @@ impl Desk<'_> {
     ) -> Result<(), Memory>
         ensures heard { OnOk result (Hears member.now now bytes.now self.old self.new) }
         ensures rest { IsSameButHeard self.old self.new }
-        ensures left { OnErr result ((self.new.named.entries ≡ self.old.named.entries)
-            × (self.new.given_back.entries ≡ self.old.given_back.entries)) }
+        ensures left { OnErr result (IsNothingHeard self.old self.new) }
     {
         if bytes.len() > LONGEST {
             return Ok(());
@@ -69,8 +69,7 @@ impl Desk<'_> {
         ensures heard { OnOk result (HearsMessage member.now now message.now
             (number_found member.now.division message.now.path) self.old self.new) }
         ensures rest { IsSameButHeard self.old self.new }
-        ensures left { OnErr result ((self.new.named.entries ≡ self.old.named.entries)
-            × (self.new.given_back.entries ≡ self.old.given_back.entries)) }
+        ensures left { OnErr result (IsNothingHeard self.old self.new) }
     {
         let Some(unit) = member.units().find(&message.path) else {
             return Ok(());
@@ -78,6 +77,7 @@ impl Desk<'_> {
         match &message.body {
             Body::Ask => self.hear_question(member, message.sender, unit, now),
             Body::Nay(refused, claim) => self.hear_nay(member, unit, *refused, *claim, now),
+            Body::Offer(claim) => self.hear_offer(member, unit, *claim),
             _ => Ok(()),
         }
     }
@@ -98,9 +98,9 @@ impl Desk<'_> {
             ≡ put (get nat_eq self.old.given_back) unit
             (back_after member.now self.old unit sender Ask now
             (get nat_eq self.old.given_back unit)) v) }
+        ensures elsewhere { self.new.failed_elsewhere ≡ self.old.failed_elsewhere }
         ensures rest { IsSameButHeard self.old self.new }
-        ensures left { OnErr result ((self.new.named.entries ≡ self.old.named.entries)
-            × (self.new.given_back.entries ≡ self.old.given_back.entries)) }
+        ensures left { OnErr result (IsNothingHeard self.old self.new) }
     {
         let given = self.given_by(member, unit, sender, now);
         give_back(&mut self.given_back, unit, given, now)?;
@@ -156,15 +156,32 @@ impl Desk<'_> {
             ≡ put (get nat_eq self.old.named) unit (named_after member.now sender
             (Nay refused claim) now (get nat_eq self.old.named unit)) v) }
         ensures given_back { self.new.given_back ≡ self.old.given_back }
+        ensures elsewhere { self.new.failed_elsewhere ≡ self.old.failed_elsewhere }
         ensures rest { IsSameButHeard self.old self.new }
-        ensures left { OnErr result ((self.new.named.entries ≡ self.old.named.entries)
-            × (self.new.given_back.entries ≡ self.old.given_back.entries)) }
+        ensures left { OnErr result (IsNothingHeard self.old self.new) }
     {
         if refused.member != member.me() || claim.member == member.me() {
             return Ok(());
         }
         self.named.insert(unit, Named { claim, since: now })?;
         Ok(())
+    }
+
+    /// The claim's member offers it for the unit, so that one tries the unit again if its build
+    /// failed there.
+    fn hear_offer(&mut self, member: &Member<'_>, unit: u32, claim: Claim) -> Result<(), Memory>
+        requires { unit < length member.now.division.units }
+        ensures elsewhere { OnOk result ((v : ℕ) → get nat_eq self.new.failed_elsewhere v
+            ≡ put (get nat_eq self.old.failed_elsewhere) unit
+            (failures_after member.now unit (Offer claim)
+            (get nat_eq self.old.failed_elsewhere unit)) v) }
+        ensures named { (self.new.named ≡ self.old.named)
+            × (self.new.given_back ≡ self.old.given_back) }
+        ensures rest { IsSameButHeard self.old self.new }
+        ensures left { OnErr result (IsNothingHeard self.old self.new) }
+    {
+        let promised = promised(member, unit);
+        remove_claimer(&mut self.failed_elsewhere, unit, claim, promised)
     }
 
     /// Whether a nay named another member's claim for the unit, above what this member promised, so

@@ -1,7 +1,7 @@
 //! What a desk wishes that its node does.
 ghost use Rattle.std.specs.Prelude.{◌≡◌, ◌≢◌, ◌⊎◌, ◌<◌, IfErr, IfNone, IfOk, IfSome, None, Some, false, length, not, true};
 ghost use Rattle.turn_rules.specs.Own.{is_barred};
-ghost use Rattle.scheduler.specs.Wishing.{IsAllowed, IsAskFrom, IsClaimAt, IsClaimWished, IsClaimedAnew, IsDueQuestion, IsFirstInTurn, IsNextAsked, IsNothingNew, IsPressing, IsResumed, IsWishOf, LeavesNothing, NoneBefore, above_at, above_for, builds, has_place, is_due, is_over_here, may_claim};
+ghost use Rattle.scheduler.specs.Wishing.{IsAllowed, IsAskFrom, IsClaimAt, IsClaimWished, IsClaimedAnew, IsDueQuestion, IsFirstInTurn, IsNextAsked, IsNothingNew, IsPressing, IsResumed, IsWishOf, LeavesNothing, NoneBefore, NoneToResume, above_at, above_for, builds, has_place, is_due, is_over_here, may_claim};
 ghost use Rattle.engine.specs.Division.{number_of};
 ghost use Rattle.listing.specs.Tree.{path_at};
 ghost use Rattle.turn_rules.specs.declared.wish.Wish.TheVariants.{Claim};
@@ -110,7 +110,8 @@ impl Desk<'_> {
     /// The wish to claim the least unit that was this member's own before this run, if there may be
     /// some.
     fn resumed(&self, member: &Member<'_>, now: Instant) -> Result<Option<Wish>, Memory>
-        ensures { IfOk result (λ o. IfSome o (IsResumed member.now self.now now)) }
+        ensures wish { IfOk result (λ o. IfSome o (IsResumed member.now self.now now)) }
+        ensures none { IfOk result (λ o. IfNone o (NoneToResume member.now self.now now)) }
     {
         if !self.resumes {
             return Ok(None);

@@ -4,6 +4,7 @@ ghost use Rattle.datagram_ports.specs.Kept.{one_more};
 ghost use Rattle.udp.specs.Calls.{setup_of};
 ghost use Rattle.udp.specs.Inbox.{GoesOn};
 ghost use Rattle.udp.specs.Leaving.{IsLeft};
+ghost use Rattle.udp.specs.Notices.{NoticesGoOn};
 ghost use Rattle.udp.specs.Waiting.{patience_at};
 
 use crate::patience::{Hurry, Patience};
@@ -17,6 +18,7 @@ impl<C: Clock> UdpPort<'_, C> {
     /// Returns whether a socket failed.
     pub(crate) fn look(&mut self) -> bool
         ensures goes_on { GoesOn self.old.inbox self.new.inbox }
+        ensures notices { NoticesGoOn self.old.notices self.new.notices }
         ensures outbox { self.new.outbox ≡ self.old.outbox }
         ensures stays { (self.new.failures ≡ self.old.failures)
             × (self.new.sends ≡ self.old.sends) × (self.new.hurry ≡ self.old.hurry) }
@@ -51,6 +53,7 @@ impl<C: Clock> UdpPort<'_, C> {
     /// Looks at the sockets once, and lets some datagrams leave. Returns whether a socket failed.
     fn look_once(&mut self) -> bool
         ensures goes_on { GoesOn self.old.inbox self.new.inbox }
+        ensures notices { NoticesGoOn self.old.notices self.new.notices }
         ensures outbox { self.new.outbox ≡ self.old.outbox }
         ensures stays { (self.new.failures ≡ self.old.failures)
             × (self.new.sends ≡ self.old.sends) × (self.new.hurry ≡ self.old.hurry) }
@@ -67,6 +70,7 @@ impl<C: Clock> UdpPort<'_, C> {
     /// returns whether a socket failed.
     pub(crate) fn take_in(&mut self) -> bool
         ensures goes_on { GoesOn self.old.inbox self.new.inbox }
+        ensures notices { NoticesGoOn self.old.notices self.new.notices }
         ensures stays { (self.new.failures ≡ self.old.failures)
             × (self.new.sends ≡ self.old.sends) × (self.new.hurry ≡ self.old.hurry) }
         ensures leaving { (self.new.leaving ≡ self.old.leaving)
@@ -77,6 +81,7 @@ impl<C: Clock> UdpPort<'_, C> {
         let now = Instant::now(self.clock).ok();
         self.tallies.look(now);
         let sieve = Sieve {
+            seats: &self.seats,
             members: self.addresses.as_slice(),
             most: self.most,
             is_open: self.is_open,
@@ -84,11 +89,11 @@ impl<C: Clock> UdpPort<'_, C> {
             now,
         };
         take_off(
-            &self.seats,
             sieve,
             &mut self.buffer,
             &mut self.inbox,
             &mut self.requests,
+            &mut self.notices,
             &mut self.tallies,
         )
     }
@@ -100,6 +105,7 @@ impl<C: Clock> UdpPort<'_, C> {
         ensures none { has_failed ≡ false → (result ≡ Ok None)
             × (self.new.failures ≡ self.old.failures) }
         ensures same { (self.new.inbox ≡ self.old.inbox) × (self.new.outbox ≡ self.old.outbox)
+            × (self.new.notices ≡ self.old.notices)
             × (self.new.leaving ≡ self.old.leaving) × (self.new.handed ≡ self.old.handed) }
         ensures stays { (self.new.sends ≡ self.old.sends)
             × (self.new.hurry ≡ self.old.hurry) }

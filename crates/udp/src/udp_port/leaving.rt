@@ -3,13 +3,14 @@ ghost use Rattle.std.specs.Prelude.{◌≡◌, ◌≢◌, ◌++◌, ◌∷◌, �
 ghost use Rattle.udp.specs.Calls.{setup_of};
 ghost use Rattle.udp.specs.Inbox.{GoesOn, came_as};
 ghost use Rattle.udp.specs.Leaving.{HandsOver, HasLeft, IsLeft};
+ghost use Rattle.udp.specs.Notices.{NoticesGoOn};
 ghost use Rattle.udp.specs.Ways.{HasNoSeat, HasWay, IsSeatOf, LeavesBy, in_line};
 
 use crate::line::Waiting;
 use crate::sockets::{Seat, Sent, Way, hand_over, seat_of, way_of};
 use crate::tallies::Tallies;
-use crate::told::Told;
 use crate::udp_port::UdpPort;
+use datagram_ports::Told;
 use faults::Memory;
 use std::thread;
 use std::time::{Clock, Duration};
@@ -27,6 +28,7 @@ impl<C: Clock> UdpPort<'_, C> {
     /// Offers a datagram, and returns whether the port took it.
     pub(crate) fn is_taken(&mut self, from: u8, to: u8, bytes: &[u8]) -> Result<bool, Memory>
         ensures goes_on { GoesOn self.old.inbox self.new.inbox }
+        ensures notices { NoticesGoOn self.old.notices self.new.notices }
         ensures key { self.new.outbox.key ≡ self.old.outbox.key }
         ensures stays { (self.new.failures ≡ self.old.failures)
             × (self.new.sends ≡ self.old.sends) × (self.new.hurry ≡ self.old.hurry) }
@@ -56,6 +58,7 @@ impl<C: Clock> UdpPort<'_, C> {
     /// Hands the datagram that was made to the system, and takes in what was received.
     fn send_here(&mut self, way: Way) -> bool
         ensures goes_on { GoesOn self.old.inbox self.new.inbox }
+        ensures notices { NoticesGoOn self.old.notices self.new.notices }
         ensures outbox { self.new.outbox ≡ self.old.outbox }
         ensures stays { (self.new.failures ≡ self.old.failures)
             × (self.new.sends ≡ self.old.sends) × (self.new.hurry ≡ self.old.hurry) }
@@ -77,6 +80,7 @@ impl<C: Clock> UdpPort<'_, C> {
     /// Appends the datagram that was made to the queue, if there is room for it.
     fn send_away(&mut self, way: Way) -> Result<bool, Memory>
         ensures goes_on { GoesOn self.old.inbox self.new.inbox }
+        ensures notices { NoticesGoOn self.old.notices self.new.notices }
         ensures outbox { self.new.outbox ≡ self.old.outbox }
         ensures stays { (self.new.failures ≡ self.old.failures)
             × (self.new.sends ≡ self.old.sends) × (self.new.hurry ≡ self.old.hurry) }
@@ -104,6 +108,7 @@ impl<C: Clock> UdpPort<'_, C> {
             × (self.new.sends ≡ self.old.sends) × (self.new.hurry ≡ self.old.hurry) }
         ensures seal_stays { (self.new.inbox ≡ self.old.inbox)
             × (self.new.outbox ≡ self.old.outbox) }
+        ensures notices { self.new.notices ≡ self.old.notices }
         ensures setup { setup_of self.new ≡ setup_of self.old }
     {
         for _ in 0..LEAVE_AT_A_LOOK {
@@ -123,6 +128,7 @@ impl<C: Clock> UdpPort<'_, C> {
             × (self.new.sends ≡ self.old.sends) × (self.new.hurry ≡ self.old.hurry) }
         ensures seal_stays { (self.new.inbox ≡ self.old.inbox)
             × (self.new.outbox ≡ self.old.outbox) }
+        ensures notices { self.new.notices ≡ self.old.notices }
         ensures setup { setup_of self.new ≡ setup_of self.old }
     {
         let count = self.leaving.len();
@@ -156,6 +162,7 @@ impl<C: Clock> UdpPort<'_, C> {
             × (self.new.sends ≡ self.old.sends) × (self.new.hurry ≡ self.old.hurry) }
         ensures seal_stays { (self.new.inbox ≡ self.old.inbox)
             × (self.new.outbox ≡ self.old.outbox) }
+        ensures notices { self.new.notices ≡ self.old.notices }
         ensures setup { setup_of self.new ≡ setup_of self.old }
     {
         let mut naps = NAPS_OF_A_FLUSH;
@@ -173,6 +180,7 @@ impl<C: Clock> UdpPort<'_, C> {
             × (self.new.sends ≡ self.old.sends) × (self.new.hurry ≡ self.old.hurry) }
         ensures seal_stays { (self.new.inbox ≡ self.old.inbox)
             × (self.new.outbox ≡ self.old.outbox) }
+        ensures notices { self.new.notices ≡ self.old.notices }
         ensures setup { setup_of self.new ≡ setup_of self.old }
     {
         let Some(first) = self.leaving.take_first() else {

@@ -1,7 +1,8 @@
 //! A port that loses what it is told to.
 ghost use Rattle.std.specs.Prelude.{None};
+ghost use Rattle.datagram_ports.specs.Granted.{IsGranted};
 
-use datagram_ports::{MemPort, Port, PortFault};
+use datagram_ports::{MemPort, Port, PortFault, Warrant};
 use std::alloc::Global;
 
 /// Gives what was sent, in that order, but for what it loses, of which it says nothing.
@@ -59,8 +60,14 @@ impl Port for LossyPort {
 
     ghost failures_of = { λ p. p.port.failures };
 
+    ghost may_send = { λ p text. IsGranted p.port.granted text };
+
     fn receive(&mut self) -> Result<Option<(u8, Vec<u8>)>, PortFault> {
         self.port.receive()
+    }
+
+    fn grant<W: Warrant>(&mut self, warrant: &W, bytes: &[u8]) {
+        self.port.grant(warrant, bytes);
     }
 
     fn send(&mut self, from: u8, to: u8, bytes: &[u8]) -> Result<(), PortFault> {

@@ -40,10 +40,12 @@ pub(crate) fn pace(jobs: u32) -> Pace {
         ask: Duration::from_secs(1),
         takeover: Duration::from_secs(600),
         slot: Duration::from_millis(1),
+        tries: 2,
     }
 }
 
-/// A turn by the desk: a letter for what the node did.
+/// A turn by the desk: a letter for what the node did, ! if a build failed whose mark couldn't be
+/// written.
 pub(crate) fn letter(
     rt: &HostRuntime,
     solo: &mut Solo<'_, MemDisk, MemPort>,
@@ -64,10 +66,11 @@ pub(crate) fn letter(
     let Some(act) = done else {
         return Ok(b'.');
     };
-    desk.took(rt, solo.node().member(), &act, now)?;
+    let fault = desk.took(rt, solo.node().member(), &act, now)?;
     Ok(match &act {
         Act::Own(Input::Claim { .. }) => b'C',
         Act::Own(Input::Built { .. }) => b'B',
+        Act::Own(Input::Failed { .. }) if fault.is_some() => b'!',
         Act::Own(Input::Failed { .. }) => b'F',
         Act::Own(Input::Ask { .. }) => b'A',
         Act::Datagram(_) => b'D',
@@ -244,5 +247,95 @@ fn two_jobs_beside_each_other(rt: HostRuntime) -> Result<(), Fail> {
     assert!(rt; built.as_slice() == b"CDDBDD".as_slice());
     assert!(rt; last.as_slice() == b"CDDBDD.".as_slice());
     assert!(rt; is_clear && matches!(counts, Some(Counts { i: 2, .. })));
+    Ok(())
+}
+
+#[test]
+fn what_is_claimed_anew_is_not_given_back_again(rt: HostRuntime) -> Result<(), Fail> {
+    let alloc = rt.alloc();
+    let tree = Tree::parse(alloc, b"a/b.FULLPKGNAME=b-1.0\n")?;
+    let mut solo = opened(alloc, &tree)?;
+    let folder = Folder::open(&rt, "work", 0, false)?;
+    let now = Instant::now(&rt)?;
+    let mut desk = Desk::new(alloc, folder, pace(1), false, now);
+    let before = letters(&rt, &mut solo, &mut desk, now, 5)?;
+    // the host takes no jobs for a moment, and gives back what it was to build
+    desk.set_holding_off(true);
+    desk.give_back(&rt, solo.node().member())?;
+    desk.set_holding_off(false);
+    // it claims the unit anew before it asked for it; no question follows
+    let after = letters(&rt, &mut solo, &mut desk, now, 6)?;
+    drop(solo);
+    assert!(rt; before.as_slice() == b"CDD..".as_slice());
+    assert!(rt; after.as_slice() == b"CDD...".as_slice());
+    Ok(())
+}
+
+#[test]
+fn a_mark_that_cannot_be_written(rt: HostRuntime) -> Result<(), Fail> {
+    let alloc = rt.alloc();
+    let tree = Tree::parse(alloc, LISTING)?;
+    let mut solo = opened(alloc, &tree)?;
+    let folder = Folder::open(&rt, "work", 0, false)?;
+    let now = Instant::now(&rt)?;
+    let mut desk = Desk::new(alloc, folder, pace(1), false, now);
+    let before = letters(&rt, &mut solo, &mut desk, now, 5)?;
+    let Some(name) = name_of_job(&rt, &solo)? else {
+        return Ok(assert!(rt; false));
+    };
+    fs::remove_dir(&rt, "work/failed")?;
+    fs::write(&rt, "work/failed", b"no folder".as_slice())?;
+    hand_in(&rt, "work", &name, "{")?;
+    // the fault comes once, and then nothing is claimed or asked for any more
+    let failed = letters(&rt, &mut solo, &mut desk, now, 4)?;
+    desk.retry(&rt)?;
+    let still = letters(&rt, &mut solo, &mut desk, now, 2)?;
+    let has_more = desk.has_more(solo.node().member());
+    drop(solo);
+    assert!(rt; before.as_slice() == b"CDD..".as_slice());
+    assert!(rt; failed.as_slice() == b"!A..".as_slice());
+    assert!(rt; still.as_slice() == b"..".as_slice());
+    assert!(rt; desk.is_clear() && !has_more);
+    Ok(())
+}
+
+#[test]
+fn a_notice_is_due_at_once_and_once_a_second(rt: HostRuntime) -> Result<(), Fail> {
+    let alloc = rt.alloc();
+    let tree = Tree::parse(alloc, TWO)?;
+    let mut solo = opened(alloc, &tree)?;
+    let folder = Folder::open(&rt, "work", 0, false)?;
+    let now = Instant::now(&rt)?;
+    let mut desk = Desk::new(alloc, folder, pace(1), false, now);
+    let none = desk.next_notice(now);
+    for _ in 0..2 {
+        letters(&rt, &mut solo, &mut desk, now, 5)?;
+        let Some(name) = name_of_job(&rt, &solo)? else {
+            return Ok(assert!(rt; false));
+        };
+        hand_in(&rt, "work", &name, "{")?;
+        letters(&rt, &mut solo, &mut desk, now, 2)?;
+    }
+    let mut at_once = [None; 3];
+    for place in 0..3 {
+        at_once[place] = desk.next_notice(now);
+    }
+    let mut again = [None; 6];
+    for place in 0..6 {
+        let later = now.checked_add(Duration::from_millis(500 * place as u64)).ok_or("no time")?;
+        again[place] = desk.next_notice(later);
+    }
+    for entry in fs::read_dir(&rt, "work/failed")? {
+        let entry = entry?;
+        let name = entry.file_name();
+        let mark = format!(in alloc; "work/failed/{name}")?;
+        fs::remove_file(&rt, mark.as_str())?;
+    }
+    desk.retry(&rt)?;
+    let last = desk.next_notice(now.checked_add(Duration::from_secs(9)).ok_or("no time")?);
+    drop(solo);
+    assert!(rt; none.is_none() && last.is_none());
+    assert!(rt; at_once == [Some(1), Some(0), None]);
+    assert!(rt; again == [None, None, Some(0), None, Some(1), None]);
     Ok(())
 }

@@ -7,12 +7,14 @@ use job_folder::Folder;
 use listing::Tree;
 use lone_node::Solo;
 use node::Node;
+use pkgpath::PkgPath;
 use scheduler::Desk;
 use stable_record::MemDisk;
 use std::alloc::Global;
 use std::fs;
 use std::test::Fail;
 use std::time::{Duration, Instant};
+use turn_rules::{Initiative, Wish};
 
 /// The folders of three nodes.
 const WORKS: [&str; 3] = ["work-0", "work-1", "work-2"];
@@ -295,5 +297,86 @@ fn a_late_node_leaves_what_others_build(rt: HostRuntime) -> Result<(), Fail> {
     drop(hosts);
     assert!(rt; is_built && is_held);
     assert!(rt; before == 1 && after == 1 && is_late_one_free);
+    Ok(())
+}
+
+#[test]
+fn what_failed_at_so_many_members_is_claimed_by_nobody(rt: HostRuntime) -> Result<(), Fail> {
+    let alloc = rt.alloc();
+    let tree = Tree::parse(alloc, b"a/b.FULLPKGNAME=b-1.0\n")?;
+    let now = Instant::now(&rt)?;
+    let mut hosts = Vec::new(alloc);
+    for me in 0..3 {
+        hosts.push(make_host(&rt, &tree, &[1, 1, 1], me, now)?)?;
+    }
+    // notices that count: each member once, and none of its own, or of a unit that doesn't exist
+    let mut has_more = [false; 5];
+    for (place, (from, unit)) in [(1, 0), (1, 0), (2, 0), (3, 0), (0, 1)].iter().enumerate() {
+        let host = &mut hosts[2];
+        host.desk.hear_notice(host.solo.node().member(), *from, *unit)?;
+        has_more[place] = host.desk.has_more(host.solo.node().member());
+    }
+    let host = &mut hosts[2];
+    host.desk.hear_notice(host.solo.node().member(), 0, 0)?;
+    let is_given_up = !host.desk.has_more(host.solo.node().member());
+    // the first claims the unit: it is promised to it, so its mark was removed
+    rounds(&rt, &mut hosts, now, 5)?;
+    rounds(&rt, &mut hosts, later(now, 1)?, 30)?;
+    let is_first = hosts[0].solo.node().member().job().is_some();
+    let is_tried_again = hosts[2].desk.has_more(hosts[2].solo.node().member());
+    // its offer comes again, after another notice
+    let host = &mut hosts[2];
+    host.desk.hear_notice(host.solo.node().member(), 0, 0)?;
+    let is_given_up_again = !host.desk.has_more(host.solo.node().member());
+    drop(hosts);
+    assert!(rt; has_more == [true, true, true, true, true]);
+    assert!(rt; is_given_up && is_first && is_tried_again && is_given_up_again);
+    Ok(())
+}
+
+/// Turns in which nothing is wished.
+fn take_in(alloc: Global, hosts: &mut Vec<Host<'_>>, count: usize) -> Result<(), Fail> {
+    for _ in 0..count {
+        for me in 0..hosts.len() {
+            hosts[me].solo.turn_with(None, Initiative::Scheduled(None))?;
+            carry(alloc, hosts, me)?;
+        }
+    }
+    Ok(())
+}
+
+#[test]
+fn own_units_come_first_after_a_restart(rt: HostRuntime) -> Result<(), Fail> {
+    let alloc = rt.alloc();
+    let tree = Tree::parse(
+        alloc,
+        b"a/b.FULLPKGNAME=b-1.0\na/c.FULLPKGNAME=c-1.0\na/d.FULLPKGNAME=d-1.0\n",
+    )?;
+    let now = Instant::now(&rt)?;
+    let mut hosts = Vec::new(alloc);
+    hosts.push(make_host(&rt, &tree, &[1, 1], 0, now)?)?;
+    hosts.push(make_host(&rt, &tree, &[1, 1], 1, now)?)?;
+    // the first claims the second unit, whose turn is the other one's, and then the third
+    for path in [b"a/c", b"a/d"] {
+        let path = PkgPath::parse(alloc, path.as_slice())?;
+        let wish = Some(Wish::Claim { path, above: 0 });
+        hosts[0].solo.turn_with(None, Initiative::Scheduled(wish))?;
+        carry(alloc, &mut hosts, 0)?;
+        take_in(alloc, &mut hosts, 10)?;
+    }
+    // with a new desk it takes up the second before it claims the first
+    let folder = Folder::open(&rt, WORKS[0], 0, true)?;
+    let mut desk = Desk::new(alloc, folder, pace(2), true, now);
+    let now = later(now, 1)?;
+    let member = hosts[0].solo.node().member();
+    desk.tick(member, now)?;
+    desk.look(&rt, member)?;
+    let wish = desk.wish(&rt, member, false, now)?;
+    let is_second = match &wish {
+        Some(Wish::Claim { path, .. }) => path.as_bytes() == b"a/c".as_slice(),
+        _ => false,
+    };
+    drop(hosts);
+    assert!(rt; is_second);
     Ok(())
 }

@@ -37,6 +37,8 @@ fn builds_that_are_not(rt: HostRuntime) -> Result<(), Fail> {
     assert!(rt; is_refused(alloc, &both, ErrorKind::ArgumentConflict)?);
     let jobs = ["--base=5000", "--jobs=0"];
     assert!(rt; is_refused(alloc, &jobs, ErrorKind::ValueValidation)?);
+    let tries = ["--base=5000", "--tries=10"];
+    assert!(rt; is_refused(alloc, &tries, ErrorKind::ValueValidation)?);
     let rest = ["--base=5000", "--rest=1000001"];
     assert!(rt; is_refused(alloc, &rest, ErrorKind::ValueValidation)?);
     let turns = ["--base=5000", "--turns=1"];
@@ -81,7 +83,8 @@ fn is_plain(alloc: Global) -> Result<bool, AllocError> {
 fn is_plain_site(site: &Site<'_>) -> bool {
     let is_told = site.listing == "L" && site.work == "W" && site.dir == "D" && site.members == 3;
     let is_counted = site.weights.is_some() || site.jobs.is_some() || site.progress.is_some();
-    is_told && !is_counted && site.takeover.is_none() && site.rest.is_none() && !site.is_single
+    let is_timed = site.takeover.is_some() || site.tries.is_some() || site.rest.is_some();
+    is_told && !is_counted && !is_timed && !site.is_single
 }
 
 fn is_plain_run(run: &Run<'_>) -> bool {
@@ -98,6 +101,7 @@ fn is_whole(alloc: Global) -> Result<bool, AllocError> {
         "--patience=7",
         "--jobs=64",
         "--takeover=1",
+        "--tries=9",
         "--rest=1000000",
         "--progress=5",
         "--single",
@@ -119,7 +123,7 @@ fn is_whole(alloc: Global) -> Result<bool, AllocError> {
 
 fn is_whole_site(site: &Site<'_>) -> bool {
     let is_told = site.work == "W" && site.weights == Some("1,2,1") && site.is_single;
-    let is_counted = site.jobs == Some(64) && site.takeover == Some(1);
+    let is_counted = site.jobs == Some(64) && site.takeover == Some(1) && site.tries == Some(9);
     is_told && is_counted && site.rest == Some(1_000_000) && site.progress == Some(5)
 }
 

@@ -9,7 +9,6 @@ returns-clause-led g c =
 
 pub returns-clause-took : goal.returns-clause-took
 returns-clause-took g c =
-    took_two g.D.Disk.is_kept g.D.Disk.history g.D.Disk.failures_of g.P.Port.given
-    g.P.Port.offered g.P.Port.does g.P.Port.vouches (AllBuilds c.args.builds.now) c.args.solo.now
+    took_two g.D.Disk g.P.Port (AllBuilds c.args.builds.now) c.args.solo.now
     c.turn-one.new.self c.turn-other.new.self c.turn-one.result c.turn-other.result
     c.turn-one.ensures c.turn-other.ensures

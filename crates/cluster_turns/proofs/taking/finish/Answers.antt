@@ -2,10 +2,23 @@ use Rattle.std.proofs.Common.{Err, ap, subst, ◌∙◌}
 use Rattle.std.proofs.lemmas.Result.{err_from_is_err_and}
 use Rattle.one_list.proofs.nodes.NodeSteps.{sends_answered}
 use Rattle.node.specs.Parcels.{datagrams_to}
+use Rattle.node.specs.Step.{taken_by}
 use Rattle.turn_rules.specs.Offered.{WasOffered, parcels_from}
 use Rattle.datagram_ports.specs.Kept.{GoesOnBy}
 use Rattle.cluster_turns.proofs.Settling.{not_taken}
 use Rattle.cluster_turns.proofs.taking.finish.Goals as goal
+
+pub offer-requires : goal.offer-requires
+offer-requires g c = record {
+  before = c.args.node.now;
+  logged = c.member-node.ensures.node;
+  asked = c.requires.present.asked;
+  taken = taken_by c.args.node.now.node c.args.ready;
+  takes = c.requires.present.takes;
+  state = c.in_ok-out.ensures.taken.state;
+  sends = c.in_ok-out.ensures.taken.tells.sends;
+  on_log = c.in_ok-out.ensures.on_log;
+}
 
 pub returns-clause-taken : goal.returns-clause-taken
 returns-clause-taken g c = record {

@@ -1,12 +1,9 @@
-use Rattle.std.proofs.lemmas.Result.{IfOk-weaker}
 use Rattle.dpbn_build.proofs.answering.answer_after.Goals as goal
 
-pub returns-then-is_ended : goal.returns-then-is_ended
-returns-then-is_ended g c =
-    IfOk-weaker c.answer_of.result _ _
-    (λ answer told. record {
+pub returns-in-Ok-clause-answer : goal.returns-in-Ok-clause-answer
+returns-in-Ok-clause-answer g c =
+    record {
       after = c.run-is_ended.new.solo;
-      built = c.run-is_ended.ensures c.if-is_ended.true;
-      is_line = told;
-    })
-    c.answer_of.ensures
+      built = c.run-is_ended.ensures c.if-not-is_ended.false;
+      is_line = c.in-Ok.ensures;
+    }

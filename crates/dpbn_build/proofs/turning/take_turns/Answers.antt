@@ -4,30 +4,20 @@ use Rattle.dpbn_build.proofs.turning.take_turns.Goals as goal
 
 pub loop-init : goal.loop-init
 loop-init g c =
-    none_yet g.D.Disk.is_kept g.D.Disk.history g.D.Disk.failures_of g.P.Port.given
-    g.P.Port.offered g.P.Port.does g.P.Port.vouches g.P.Hurried.hurried
+    none_yet g.D.Disk g.P.Port g.P.BuildPort.noticed g.P.BuildPort.hurried
     c.args.solo.now
 
 pub loop-preserved : goal.loop-preserved
 loop-preserved g c =
-    subst (λ s. HaveLed g.D.Disk.is_kept g.D.Disk.history g.D.Disk.failures_of g.P.Port.given
-    g.P.Port.offered g.P.Port.does g.P.Port.vouches g.P.Hurried.hurried
+    subst (λ s. HaveLed g.D.Disk g.P.Port g.P.BuildPort.noticed g.P.BuildPort.hurried
     c.args.solo.now s)
     (sym c.tell_turn.ensures)
-    (one_more g.D.Disk.is_kept g.D.Disk.history g.D.Disk.failures_of g.P.Port.given
-    g.P.Port.offered g.P.Port.does g.P.Port.vouches g.P.Hurried.hurried
+    (one_more g.D.Disk g.P.Port g.P.BuildPort.noticed g.P.BuildPort.hurried
     c.args.solo.now c.loop.solo c.take_turn.new.solo c.loop.invariant c.take_turn.ensures)
 
 pub returns-then-is_at_end : goal.returns-then-is_at_end
 returns-then-is_at_end g c =
-    λ ended. at_end g.D.Disk.is_kept g.D.Disk.history g.D.Disk.failures_of g.P.Port.given
-    g.P.Port.offered g.P.Port.does g.P.Port.vouches g.P.Hurried.hurried
-    c.args.rest c.args.solo.now c.tell_turn.new.solo
-    (subst (λ s. HaveLed g.D.Disk.is_kept g.D.Disk.history g.D.Disk.failures_of g.P.Port.given
-    g.P.Port.offered g.P.Port.does g.P.Port.vouches g.P.Hurried.hurried
-    c.args.solo.now s)
-    (sym c.tell_turn.ensures)
-    (one_more g.D.Disk.is_kept g.D.Disk.history g.D.Disk.failures_of g.P.Port.given
-    g.P.Port.offered g.P.Port.does g.P.Port.vouches g.P.Hurried.hurried
-    c.args.solo.now c.loop.solo c.take_turn.new.solo c.loop.invariant c.take_turn.ensures))
-    (c.is_at_end.ensures c.if-is_at_end.true)
+    λ ended. at_end g.D.Disk g.P.Port g.P.BuildPort.noticed g.P.BuildPort.hurried
+    c.args.rest c.args.solo.now c.loop.solo c.take_turn.new.solo c.tell_turn.new.solo
+    c.loop.invariant c.take_turn.ensures c.tell_turn.ensures
+    (c.is_at_end.ensures.ends c.if-is_at_end.true)

@@ -31,4 +31,5 @@ returns-clause-begun g c =
         sealed = λ some. port.open ∙ guard.closed some;
         closed = λ no. port.open ∙ guard.members no;
       };
+      empty = port.empty;
     }

@@ -12,8 +12,7 @@ returns-in-Ok-clause-left g c = λ kept kept_then on gone.
     let old = c.args.solo.now in
     let new = c.turn_with-answer.new.self in
     let e = c.turn_with-answer.ensures in
-    opened_again g.D.Disk.is_kept g.D.Disk.history g.P.Port.given g.P.Port.offered
-    g.P.Port.does g.P.Port.vouches
+    opened_again g.D.Disk g.P.Port
     passed old new (subst IsLogged c.node.ensures c.member-node.ensures.node)
     on kept_then c.turn_with-answer.result e.done.taken e.log.any_moment
     e.refuses.refused e.log.untouched c.args.tree.now c.args.weights.now c.args.me c.requires.own

@@ -9,8 +9,8 @@ use Rattle.laws.proofs.turns.turn_on_host.Goals as goal
 pub returns-clause-turned : goal.returns-clause-turned
 returns-clause-turned g c =
     let passed = handed (option_map (λ b. b.now) c.args.made) c.args.initiative in
-    taken_so g.P.Port.given g.P.Port.offered g.P.Port.does g.P.Port.vouches passed
-    (LeavesAtMost g.D.Disk.is_kept g.D.Disk.history c.args.solo.now c.turn_with.new.self)
+    taken_so g.P.Port passed
+    (LeavesAtMost g.D.Disk c.args.solo.now c.turn_with.new.self)
     c.args.solo.now c.turn_with.new.self
     (subst IsLogged c.node.ensures c.member-node.ensures.node)
     c.turn_with.result c.turn_with.ensures.done.taken
@@ -18,8 +18,8 @@ returns-clause-turned g c =
 pub returns-clause-refused : goal.returns-clause-refused
 returns-clause-refused g c =
     let passed = handed (option_map (λ b. b.now) c.args.made) c.args.initiative in
-    refusals_so g.P.Port.given g.P.Port.offered g.P.Port.does g.P.Port.vouches passed
-    (LeavesAtMost g.D.Disk.is_kept g.D.Disk.history c.args.solo.now c.turn_with.new.self)
+    refusals_so g.P.Port passed
+    (LeavesAtMost g.D.Disk c.args.solo.now c.turn_with.new.self)
     c.args.solo.now c.turn_with.new.self
     (subst IsLogged c.node.ensures c.member-node.ensures.node)
     c.turn_with.result c.turn_with.ensures.refuses.refused
@@ -30,8 +30,8 @@ returns-clause-nothing g c = c.turn_with.ensures.done.nothing
 pub returns-clause-stayed : goal.returns-clause-stayed
 returns-clause-stayed g c =
     let passed = handed (option_map (λ b. b.now) c.args.made) c.args.initiative in
-    stayed_so g.P.Port.given g.P.Port.offered g.P.Port.does g.P.Port.vouches passed
-    (LeavesAtMost g.D.Disk.is_kept g.D.Disk.history c.args.solo.now c.turn_with.new.self)
+    stayed_so g.P.Port passed
+    (LeavesAtMost g.D.Disk c.args.solo.now c.turn_with.new.self)
     c.args.solo.now c.turn_with.new.self
     (subst IsLogged c.node.ensures c.member-node.ensures.node)
     c.turn_with.result c.turn_with.ensures.done.same

@@ -14,7 +14,7 @@ pub returns-in_err-readied-clause-refused : goal.returns-in_err-readied-clause-r
 returns-in_err-readied-clause-refused g c =
     let passed = handed (option_map (λ b. b.now) c.args.made) c.args.initiative in
     let p = err_from_is_err_and c.from_residual.result c.from_residual.ensures.1 in
-    rw p.1 (job_wants g.P.Port.given g.P.Port.does g.P.Port.vouches
+    rw p.1 (job_wants g.P.Port
     (solo_of c.args.node.now c.args.pending.now c.args.port.now)
     (solo_of c.answered.new.node c.args.pending.now c.args.port.now) passed
     c.member.ensures.node.node.member refl
@@ -24,7 +24,7 @@ returns-in_err-readied-clause-refused g c =
 pub returns-in-Some-clause-chosen : goal.returns-in-Some-clause-chosen
 returns-in-Some-clause-chosen g c =
     let passed = handed (option_map (λ b. b.now) c.args.made) c.args.initiative in
-    job_made g.P.Port.given g.P.Port.does g.P.Port.vouches (solo_of c.args.node.now c.args.pending.now c.args.port.now)
+    job_made g.P.Port (solo_of c.args.node.now c.args.pending.now c.args.port.now)
     (solo_of c.answered.new.node c.args.pending.now c.args.port.now) passed
     c.member.ensures.node.node.member refl
     c.answered.ensures.same c.in-Some.readied
@@ -38,7 +38,7 @@ returns-in_err-readied-2-clause-refused g c =
     c.from_residual-in_err-readied-2.ensures.1 in
     let n = c.args.node.now in
     let came = came_of c.received-came.result in
-    rw p.1 (arrival_fault g.P.Port.given g.P.Port.does g.P.Port.vouches
+    rw p.1 (arrival_fault g.P.Port
     (solo_of n c.args.pending.now c.args.port.now)
     (solo_of c.taken_in.new.node c.args.pending.now c.received-came.new.port) passed
     c.member.ensures.node.node.member
@@ -55,7 +55,7 @@ returns-in-Some-2-clause-chosen g c =
     let came = came_of c.received-came.result in
     let made = taken_made c.answered.new.node n c.answered.ensures.same c.taken_in.new.node came
     c.in_ok-readied-2.field-0 c.in_ok-readied-2.ensures.made in
-    arrival_made g.P.Port.given g.P.Port.does g.P.Port.vouches (solo_of n c.args.pending.now c.args.port.now)
+    arrival_made g.P.Port (solo_of n c.args.pending.now c.args.port.now)
     (solo_of c.taken_in.new.node c.args.pending.now c.received-came.new.port) passed
     c.member.ensures.node.node.member
     (subst (IsPart n (its_answer n.node (option_map (λ b. b.now) c.args.made))) c.in_default.is
@@ -70,7 +70,7 @@ returns-clause-chosen g c =
     let came = came_of c.received-came.result in
     let made = taken_made c.answered.new.node n c.answered.ensures.same c.taken_in.new.node came
     c.in_ok-readied-2.field-0 c.in_ok-readied-2.ensures.made in
-    done_answers g.P.Port.given g.P.Port.does g.P.Port.vouches (solo_of n c.args.pending.now c.args.port.now)
+    done_answers g.P.Port (solo_of n c.args.pending.now c.args.port.now)
     (solo_of c.done.new.node c.args.pending.now c.received-came.new.port) passed
     c.member.ensures.node.node.member
     (subst (IsPart n (its_answer n.node (option_map (λ b. b.now) c.args.made))) c.in_default.is
@@ -88,7 +88,7 @@ returns-clause-refused g c =
     let came = came_of c.received-came.result in
     let made = taken_made c.answered.new.node n c.answered.ensures.same c.taken_in.new.node came
     c.in_ok-readied-2.field-0 c.in_ok-readied-2.ensures.made in
-    done_faults g.P.Port.given g.P.Port.does g.P.Port.vouches (solo_of n c.args.pending.now c.args.port.now)
+    done_faults g.P.Port (solo_of n c.args.pending.now c.args.port.now)
     (solo_of c.done.new.node c.args.pending.now c.received-came.new.port) passed
     c.member.ensures.node.node.member
     (subst (IsPart n (its_answer n.node (option_map (λ b. b.now) c.args.made))) c.in_default.is

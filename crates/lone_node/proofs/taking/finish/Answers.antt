@@ -1,7 +1,20 @@
 use Rattle.std.proofs.Common.{Err, ap, inl, inr}
+use Rattle.node.specs.Step.{taken_by}
 use Rattle.lone_node.proofs.Refused.{stops_or_runs}
 use Rattle.lone_node.proofs.Room.{not_full}
 use Rattle.lone_node.proofs.taking.finish.Goals as goal
+
+pub offer-requires : goal.offer-requires
+offer-requires g c = record {
+  before = c.args.node.now;
+  logged = c.requires.logged;
+  asked = c.requires.ready.asked;
+  taken = taken_by c.args.node.now.node c.args.ready;
+  takes = c.requires.ready.takes;
+  state = c.in-Ok.ensures.taken.state;
+  sends = c.in-Ok.ensures.taken.tells.sends;
+  on_log = c.in-Ok.ensures.on_log;
+}
 
 pub returns-in-Err-clause-on_log : goal.returns-in-Err-clause-on_log
 returns-in-Err-clause-on_log g c = λ kept on runs.

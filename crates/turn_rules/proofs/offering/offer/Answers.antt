@@ -1,9 +1,19 @@
-use Rattle.std.proofs.Common.{List, [], get_or, subst, sym, take}
+use Rattle.std.proofs.Common.{List, Vec, [], get_or, subst, sym, take, ◌∙◌, ℕ}
+use Rattle.std.specs.Prelude.{All}
+use Rattle.std.specs.declared.alloc.Global.{Global}
+use Rattle.faults.specs.Bytes.{Text}
 use Rattle.node.specs.Parcels.{each_to, parcels_to, texts_in}
 use Rattle.datagram_ports.specs.Kept.{GoesOnBy, Parcel}
-use Rattle.turn_rules.proofs.Offerings.{goes_on_more, more_offered, receiver_more}
-use Rattle.turn_rules.specs.Offered.{WasOffered, parcels_from}
+use Rattle.turn_rules.proofs.Offerings.{each_is_sent, goes_on_more, more_offered, receiver_more}
+use Rattle.turn_rules.specs.Offered.{IsSent, WasOffered, parcels_from}
 use Rattle.turn_rules.proofs.offering.offer.Goals as goal
+
+pub offer_to-requires : goal.offer_to-requires
+offer_to-requires g c =
+    let texts = c.parts.result.1.now in
+    subst (λ (sends : List (ℕ × Text)). All (λ (t : Vec ℕ Global). IsSent sends t.items) texts)
+    (sym (c.of-step.ensures ∙ c.parts.ensures))
+    (each_is_sent c.parts.result.0.now texts c.loop-to.to-index c.loop-to-test.true)
 
 pub loop-to-preserved : goal.loop-to-preserved
 loop-to-preserved g c =

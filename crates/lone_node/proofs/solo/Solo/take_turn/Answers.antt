@@ -20,8 +20,8 @@ take-requires-clause-readied g c =
     let s = c.self.inside in
     let now = c.args.self.now in
     let mid = solo_of c.choose.new.node s.pending c.choose.new.port in
-    readied_so g.P.Port.given g.P.Port.does g.P.Port.vouches now mid passed c.in-Some.readied
-    (has_now g.P.Port.given g.P.Port.does g.P.Port.vouches (solo_of s.node s.pending s.port) now mid passed
+    readied_so g.P.Port now mid passed c.in-Some.readied
+    (has_now g.P.Port (solo_of s.node s.pending s.port) now mid passed
     c.self.view_is c.in_ok-readied.field-0 c.in-Some.readied c.in-Some.is
     c.in_ok-readied.ensures.chosen)
 
@@ -32,13 +32,13 @@ returns-in_ok-act-in-Some-clause-taken g c =
     let now = c.args.self.now in
     let mid = solo_of c.choose.new.node s.pending c.choose.new.port in
     let new = solo_of c.take.new.node c.take.new.pending c.take.new.port in
-    let has = has_now g.P.Port.given g.P.Port.does g.P.Port.vouches (solo_of s.node s.pending s.port) now mid passed
+    let has = has_now g.P.Port (solo_of s.node s.pending s.port) now mid passed
     c.self.view_is c.in_ok-readied.field-0 c.in-Some.readied c.in-Some.is
     c.in_ok-readied.ensures.chosen in
-    subst (λ act. HasTaken g.P.Port.given g.P.Port.offered g.P.Port.does g.P.Port.vouches now new passed (asked_by act))
+    subst (λ act. HasTaken g.P.Port now new passed (asked_by act))
     (sym c.in_ok-act-in-Some.ensures.act)
-    (taken_so g.P.Port.given g.P.Port.does g.P.Port.vouches now mid new passed c.in-Some.readied has
-    c.take.ensures.given g.P.Port.offered (ap (λ x. x.pending) c.self.view_is)
+    (taken_so g.P.Port now mid new passed c.in-Some.readied has
+    c.take.ensures.given (ap (λ x. x.pending) c.self.view_is)
     (subst (λ x. GoesOnBy [] (g.P.Port.offered x.port) (g.P.Port.offered c.choose.new.port))
     c.self.view_is c.choose.ensures.offered)
     c.in_ok-act-in-Some.ensures.taken)
@@ -50,12 +50,12 @@ returns-in_ok-act-in-Some-clause-heard g c =
     let now = c.args.self.now in
     let mid = solo_of c.choose.new.node s.pending c.choose.new.port in
     let new = solo_of c.take.new.node c.take.new.pending c.take.new.port in
-    let has = has_now g.P.Port.given g.P.Port.does g.P.Port.vouches
+    let has = has_now g.P.Port
     (solo_of s.node s.pending s.port) now mid passed c.self.view_is c.in_ok-readied.field-0
     c.in-Some.readied c.in-Some.is c.in_ok-readied.ensures.chosen in
-    subst (λ act. IsHeard g.P.Port.vouches c.take.new.port (asked_by act))
+    subst (λ act. IsHeard g.P.Port c.take.new.port (asked_by act))
     (sym c.in_ok-act-in-Some.ensures.act)
-    (heard_so g.P.Port.given g.P.Port.does g.P.Port.vouches now mid new passed c.in-Some.readied has
+    (heard_so g.P.Port now mid new passed c.in-Some.readied has
     c.take.ensures.given c.take.ensures.vouches_on)
 
 pub returns-in_ok-act-in-Some-clause-any_moment :
@@ -66,12 +66,12 @@ returns-in_ok-act-in-Some-clause-any_moment g c =
     let now = c.args.self.now in
     let mid = solo_of c.choose.new.node s.pending c.choose.new.port in
     let new = solo_of c.take.new.node c.take.new.pending c.take.new.port in
-    let has = has_now g.P.Port.given g.P.Port.does g.P.Port.vouches (solo_of s.node s.pending s.port) now mid passed
+    let has = has_now g.P.Port (solo_of s.node s.pending s.port) now mid passed
     c.self.view_is c.in_ok-readied.field-0 c.in-Some.readied c.in-Some.is
     c.in_ok-readied.ensures.chosen in
-    subst (λ act. LeavesAtMost g.D.Disk.is_kept g.D.Disk.history now new (asked_by act))
+    subst (λ act. LeavesAtMost g.D.Disk now new (asked_by act))
     (sym c.in_ok-act-in-Some.ensures.act)
-    (moments_so g.D.Disk.is_kept g.D.Disk.history now mid new has.same
+    (moments_so g.D.Disk now mid new has.same
     (asked_by c.in-Some.readied.act) c.take.ensures.any_moment)
 
 pub returns-in_err-act-in-Some-clause-refused : goal.returns-in_err-act-in-Some-clause-refused
@@ -81,15 +81,15 @@ returns-in_err-act-in-Some-clause-refused g c =
     let now = c.args.self.now in
     let mid = solo_of c.choose.new.node s.pending c.choose.new.port in
     let new = solo_of c.take.new.node c.take.new.pending c.take.new.port in
-    let has = has_now g.P.Port.given g.P.Port.does g.P.Port.vouches (solo_of s.node s.pending s.port) now mid passed
+    let has = has_now g.P.Port (solo_of s.node s.pending s.port) now mid passed
     c.self.view_is c.in_ok-readied.field-0 c.in-Some.readied c.in-Some.is
     c.in_ok-readied.ensures.chosen in
     let p = err_from_is_err_and c.from_residual-in_err-act-in-Some.result
     c.from_residual-in_err-act-in-Some.ensures.1 in
-    rw p.1 (refused_so g.P.Port.given g.P.Port.does g.P.Port.vouches now mid new passed c.in-Some.readied has
+    rw p.1 (refused_so g.P.Port now mid new passed c.in-Some.readied has
     c.take.ensures.given c.in_err-act-in-Some.ensures.left.1
-    (LeavesAtMost g.D.Disk.is_kept g.D.Disk.history now new)
-    (moments_so g.D.Disk.is_kept g.D.Disk.history now mid new has.same
+    (LeavesAtMost g.D.Disk now new)
+    (moments_so g.D.Disk now mid new has.same
     (asked_by c.in-Some.readied.act) c.take.ensures.any_moment) p.0
     (subst (IsTakingFault mid.node new.node (note_in c.in-Some.readied.ready.step)) (sym p.2)
     c.in_err-act-in-Some.ensures.refused))
@@ -102,14 +102,14 @@ returns-in_err-act-in-Some-clause-untouched g c =
     let now = c.args.self.now in
     let mid = solo_of c.choose.new.node s.pending c.choose.new.port in
     let new = solo_of c.take.new.node c.take.new.pending c.take.new.port in
-    let has = has_now g.P.Port.given g.P.Port.does g.P.Port.vouches (solo_of s.node s.pending s.port) now mid passed
+    let has = has_now g.P.Port (solo_of s.node s.pending s.port) now mid passed
     c.self.view_is c.in_ok-readied.field-0 c.in-Some.readied c.in-Some.is
     c.in_ok-readied.ensures.chosen in
     let p = err_from_is_err_and c.from_residual-in_err-act-in-Some.result
     c.from_residual-in_err-act-in-Some.ensures.1 in
-    rw p.1 (untouched_so g.D.Disk.is_kept g.D.Disk.history now mid new has.same p.0
+    rw p.1 (untouched_so g.D.Disk now mid new has.same p.0
     (subst (λ f. ((k : ℕ) × (f ≡ refused.Down k))
-    ⊎ IsUntouched g.D.Disk.is_kept g.D.Disk.history mid new) (sym p.2)
+    ⊎ IsUntouched g.D.Disk mid new) (sym p.2)
     c.in_err-act-in-Some.ensures.untouched))
 
 pub returns-in_err-readied-clause-on_log : goal.returns-in_err-readied-clause-on_log
@@ -119,7 +119,7 @@ returns-in_err-readied-clause-on_log g c = λ kept on runs.
     let old = solo_of s.node s.pending s.port in
     let new = solo_of c.choose.new.node s.pending c.choose.new.port in
     on_log_still g.D.Disk.history s.node c.choose.new.node c.choose.ensures.log
-    (alike g.P.Port.given g.P.Port.does g.P.Port.vouches old new passed
+    (alike g.P.Port old new passed
     c.in_err-readied.field-0.0 c.in_err-readied.ensures.refused)
     (subst (λ x. IsOnLog g.D.Disk.history x.node) (sym c.self.view_is) on)
 
@@ -130,7 +130,7 @@ invariant_of-self g c =
     let old = solo_of s.node s.pending s.port in
     let new = solo_of c.choose.new.node s.pending c.choose.new.port in
     still_below s.node.node.member new.node.node.member s.pending s.pending c.choose.new.unfailed
-    (alike g.P.Port.given g.P.Port.does g.P.Port.vouches old new
+    (alike g.P.Port old new
     passed c.in_err-readied.field-0.0
     c.in_err-readied.ensures.refused).member refl c.choose.ensures.below
 

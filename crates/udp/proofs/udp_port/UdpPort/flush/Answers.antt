@@ -21,5 +21,6 @@ loop-self-preserved g c = record {
   );
   inbox = c.let_first_leave-naps.ensures.seal_stays.0 ∙ c.loop-self.invariant.inbox;
   outbox = c.let_first_leave-naps.ensures.seal_stays.1 ∙ c.loop-self.invariant.outbox;
+  notices = c.let_first_leave-naps.ensures.notices ∙ c.loop-self.invariant.notices;
   setup = c.let_first_leave-naps.ensures.setup ∙ c.loop-self.invariant.setup;
 }

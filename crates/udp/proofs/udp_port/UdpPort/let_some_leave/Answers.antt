@@ -8,6 +8,7 @@ loop-init g c = record {
   stays = (refl, refl, refl);
   inbox = refl;
   outbox = refl;
+  notices = refl;
   setup = refl;
 }
 
@@ -22,6 +23,7 @@ loop-preserved g c = record {
   );
   inbox = c.let_one_leave.ensures.seal_stays.0 ∙ c.loop.invariant.inbox;
   outbox = c.let_one_leave.ensures.seal_stays.1 ∙ c.loop.invariant.outbox;
+  notices = c.let_one_leave.ensures.notices ∙ c.loop.invariant.notices;
   setup = c.let_one_leave.ensures.setup ∙ c.loop.invariant.setup;
 }
 

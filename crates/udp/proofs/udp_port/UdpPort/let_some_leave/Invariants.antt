@@ -9,5 +9,6 @@ invariant-loop g l = record {
   stays : (l.self.failures ≡ l.fn.self.failures) × (l.self.sends ≡ l.fn.self.sends) × (l.self.hurry ≡ l.fn.self.hurry);
   inbox : l.self.inbox ≡ l.fn.self.inbox;
   outbox : l.self.outbox ≡ l.fn.self.outbox;
+  notices : l.self.notices ≡ l.fn.self.notices;
   setup : setup_of l.self ≡ setup_of l.fn.self;
 }

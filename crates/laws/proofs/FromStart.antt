@@ -1,0 +1,170 @@
+-- A program's start and its turns are among the things that programs do.
+use Rattle.std.proofs.Common.{◌≡◌, ◌∙◌, ℕ, List, [], ◌∷◌, Option, Some, refl, ap, subst}
+use Rattle.std.specs.declared.rt.LibcRuntime.{LibcRuntime}
+use Rattle.dpbn_build.specs.Build.{HasBuilt}
+use Rattle.dpbn_build.specs.Turns.{Turn}
+use Rattle.dpbn_node.specs.Node.{HasRun}
+use Rattle.dpbn_node.specs.Runs.{HasBegun, HasFlushed, IsOfNode, IsOfNodeOn, IsOpenedOn, RunOf, Running}
+use Rattle.dpbn_node.specs.declared.starting.Begun.{Begun}
+use Rattle.faults.specs.Bytes.{Text}
+use Rattle.laws.proofs.BuildPrograms.{build_turns}
+use Rattle.laws.proofs.OneProgram.{IsThere, flushes, node_turns}
+use Rattle.laws.specs.BuildPrograms.{BuildTurnsLead}
+use Rattle.laws.specs.FromStart.{HasBuiltFromStart, HasRunFromStart, IsDown, IsUp, once_started}
+use Rattle.laws.specs.Programs as run
+use Rattle.laws.specs.Programs.{ProgramTurnsLead, Programs, Rests, Runs}
+use Rattle.listing.specs.Tree.{Tree}
+use Rattle.lone_node.specs.Handed.{AllBuilds, Handed}
+use Rattle.lone_node.specs.Turns.{Outcome}
+use Rattle.node.specs.State.{LoggedNode}
+use Rattle.one_list.proofs.uses.HostedNodes.{set_there}
+use Rattle.protocol.specs.Given.{Given}
+use Rattle.stable_record.specs.History.{History, seen}
+use Rattle.stable_record.specs.RealFile.{file_agrees, file_history}
+use Rattle.stable_record.specs.declared.file_disk.FileDisk.{FileDisk}
+use Rattle.udp.specs.declared.udp_port.UdpPort.{UdpPort}
+
+-- ---- what is supposed of the file holds at the start
+
+-- what holds after the last turn held before the first
+agreed_node : (handed : Handed) (old : Running) (answers : List Outcome) (new : Running)
+    → ProgramTurnsLead handed old answers new → file_agrees new.node.log.disk
+    → file_agrees old.node.log.disk
+agreed_node handed old [] new same agrees =
+    subst (λ (s : Running). file_agrees s.node.log.disk) same agrees
+agreed_node handed old (answer ∷ more) new (between, turn, led) agrees =
+    turn.log.kept (agreed_node handed between more new led agrees)
+
+agreed_build : (old : Running) (turns : List Turn) (new : Running) → BuildTurnsLead old turns new
+    → file_agrees new.node.log.disk → file_agrees old.node.log.disk
+agreed_build old [] new same agrees =
+    subst (λ (s : Running). file_agrees s.node.log.disk) same agrees
+agreed_build old (turn ∷ more) new (between, (port, exchanged, is), led) agrees =
+    is.log.kept (agreed_build between more new led agrees)
+
+-- a flush changes only the port
+agreed_flush : (last new : Running) → HasFlushed last new → file_agrees new.node.log.disk
+    → file_agrees last.node.log.disk
+agreed_flush last new flushed agrees =
+    subst (λ (n : LoggedNode FileDisk). file_agrees n.log.disk)
+    (ap (λ (s : Running). s.node) flushed.same) agrees
+
+-- ---- the start
+
+module _ (tree : Tree) (weights : List ℕ) (k : ℕ) (known : History) (log : FileDisk)
+    (port : UdpPort LibcRuntime) (looked : file_agrees log → file_history log ≡ known)
+    (before : Running) (opened : IsOpenedOn log port tree weights k before) (first early : Programs)
+    (down : IsDown tree weights first k known early) (agrees : file_agrees before.node.log.disk) where
+  -- it is one of the things that programs do
+  starts : IsThere tree weights k first (once_started early k before) before
+  starts = record {
+    did = run.started early (once_started early k before) down.did (record {
+      number = k;
+      file = seen known;
+      rests = down.rests;
+      state = before;
+      opens = record {
+        log = log;
+        own = ap seen (looked (opened.node.kept agrees));
+        port = port;
+        opened = opened;
+        agrees = agrees;
+      };
+      places = refl;
+      offered = refl;
+    });
+    here = set_there early.places k (Rests (seen known)) (Runs before) down.rests;
+  }
+
+-- the end of the turns
+ends : (tree : Tree) (weights : List ℕ) (k : ℕ) (first late : Programs) (last new : Running)
+    → IsThere tree weights k first late last → HasFlushed last new
+    → IsUp tree weights first k new late.offered
+ends tree weights k first late last new there flushed =
+    let end = flushes tree weights k first late last new there flushed in
+    record { programs = end.0; did = end.1; runs = end.2; offered = end.3 }
+
+-- ---- the whole way
+
+module _ (gave : Option Text → Type 0) (known : History) (of : RunOf) (me : ℕ) (begun : Begun)
+    (has : HasBegun gave known of me begun) where
+  pub node_from_start : (builds : Given) (turns : ℕ) (after : Running)
+      → IsOfNodeOn begun.start.disk begun.port of.tree of.weights me
+      (λ before. HasRun builds turns before after)
+      → IsOfNode gave known of me
+      (λ before. HasRunFromStart of.tree of.weights me known builds turns before after)
+  node_from_start builds turns after on = record {
+    begun = begun;
+    has_begun = has;
+    opened = record {
+      before = on.before;
+      opened = on.opened;
+      is = record {
+        run = on.is;
+        of_programs = λ first early late down agrees happened.
+            ends of.tree of.weights me first late on.is.last after
+            (node_turns of.tree of.weights me first (AllBuilds builds) on.before
+            on.is.turned.answers on.is.last on.is.turned.led (once_started early me on.before) late
+            (starts of.tree of.weights me known begun.start.disk begun.port
+            has.started.planned.looked on.before on.opened first early down
+            (agreed_node (AllBuilds builds) on.before on.is.turned.answers on.is.last
+            on.is.turned.led (agreed_flush on.is.last after on.is.flushed agrees))) happened)
+            on.is.flushed;
+      };
+    };
+  }
+
+  pub build_from_start : (rest : Option ℕ) (after : Running)
+      → IsOfNodeOn begun.start.disk begun.port of.tree of.weights me
+      (λ before. HasBuilt rest before after)
+      → IsOfNode gave known of me
+      (λ before. HasBuiltFromStart of.tree of.weights me known rest before after)
+  build_from_start rest after on = record {
+    begun = begun;
+    has_begun = has;
+    opened = record {
+      before = on.before;
+      opened = on.opened;
+      is = record {
+        run = on.is;
+        of_programs = λ first early late down agrees happened.
+            ends of.tree of.weights me first late on.is.last after
+            (build_turns of.tree of.weights me first on.before on.is.turned.turns on.is.last
+            on.is.turned.led (once_started early me on.before) late
+            (starts of.tree of.weights me known begun.start.disk begun.port
+            has.started.planned.looked on.before on.opened first early down
+            (agreed_build on.before on.is.turned.turns on.is.last on.is.turned.led
+            (agreed_flush on.is.last after on.is.flushed agrees))) happened)
+            on.is.flushed;
+      };
+    };
+  }
+
+-- a start whose log has this disk now
+abbrev pub on_disk : Begun → FileDisk → Begun
+on_disk begun disk = record {
+  start = record { disk = disk; unwritten = begun.start.unwritten };
+  port = begun.port;
+}
+
+-- it is a start still, if its log was only looked at once more
+pub looked_again : (gave : Option Text → Type 0) (known : History) (of : RunOf) (me : ℕ)
+    (begun : Begun) (disk : FileDisk) → (file_agrees disk → file_agrees begun.start.disk)
+    → (file_agrees disk → file_history disk ≡ file_history begun.start.disk)
+    → HasBegun gave known of me begun
+    → HasBegun gave known of me (on_disk begun disk)
+looked_again gave known of me begun disk kept same has = record {
+  started = record {
+    plan = has.started.plan;
+    planned = record {
+      log = has.started.planned.log;
+      found = λ agrees. has.started.planned.found (kept agrees);
+      judged = has.started.planned.judged;
+      looked = λ agrees. same agrees ∙ has.started.planned.looked (kept agrees);
+    };
+    is_unwritten = has.started.is_unwritten;
+  };
+  seated = has.seated;
+  guarded = has.guarded;
+  empty = has.empty;
+}
