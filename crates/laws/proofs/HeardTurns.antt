@@ -2,6 +2,7 @@
 use Rattle.std.proofs.Common.{◌≡◌, ◌++◌, ◌<◌, ℕ, zero, suc, List, [], ◌∷◌, Option, None, Some, Result, Ok, length, map, slice_get, refl, sym, ap, subst, ◌∙◌, arith, inl}
 use Rattle.std.specs.Prelude.{Contains, option_map}
 use Rattle.std.proofs.lemmas.List.{append-nil, map-append}
+use Rattle.datagram_ports.specs.Granted.{IsGranted}
 use Rattle.datagram_ports.specs.Kept.{GoesOnBy, Parcel}
 use Rattle.faults.specs.Bytes.{Text}
 use Rattle.laws.proofs.OnHosts.{turns_are_of_a_run}
@@ -61,13 +62,23 @@ among (y ∷ ys) more (suc place) x below at =
 
 -- ---- a turn
 
+-- what contracts see of a port that records what is offered, over this one
+abbrev pub recording : {P : Type 0} → Port P → Port (Recorded P)
+recording port = record {
+  given = λ r. port.given r.port;
+  offered = λ r. r.sends.offered;
+  failures_of = λ r. port.failures_of r.port;
+  does = λ old call new. port.does old.port call new.port;
+  vouches = λ r text. port.vouches r.port text;
+  may_send = λ r text. port.may_send r.port text × IsGranted r.sends.granted text;
+}
+
 module _ {D P : Type 0} (disk : Disk D)
-    (port : Port (Recorded P)) (handed : Handed) (old new : SoloState D (Recorded P))
+    (port : Port P) (handed : Handed) (old new : SoloState D (Recorded P))
     (tree : Tree) (weights : List ℕ) (first h : Hosts) (k : ℕ) (so_far : Run tree weights first h)
     (alone : IsAlone h k old) where
-  -- what the port offered is what it recorded
   abbrev its_port : Port (Recorded P)
-  its_port = record port { offered = λ r. r.sends.offered }
+  its_port = recording port
 
   abbrev IsTurnSo : Option Act → Type 0
   IsTurnSo done = IsTurn disk its_port handed old new (Ok done)

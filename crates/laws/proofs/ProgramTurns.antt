@@ -197,7 +197,7 @@ module _ (tree : Tree) (weights : List ℕ) (first h : Hosts) (so_far : Run tree
 
   untouched_then : (answer : Outcome) (f : TurnFault) → ((k : ℕ) → f ≡ refused.Down k → ⊥)
       → (old.node.node.stopped ≡ false → IsOnLog file_history old.node)
-      → ((k : ℕ) × (f ≡ refused.Down k)) ⊎ IsUntouched file_agrees file_history old new
+      → ((k : ℕ) × (f ≡ refused.Down k)) ⊎ IsUntouched file_disk old new
       → file_history new.node.log.disk ≡ file_history old.node.log.disk
   untouched_then answer f other on (inl (j, is)) = absurd (other j is)
   untouched_then answer f other on (inr same) = same agrees on

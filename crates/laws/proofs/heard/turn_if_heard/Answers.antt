@@ -13,6 +13,6 @@ returns-then-is_heard g c = λ tree weights first h k so_far alone.
     let counted = sym c.in-Some.is ∙ c.count.ensures
     ∙ ap (λ (p : Recorded _). option_map length (offered_to p)) c.port.ensures.value in
     rw c.port-2.ensures.value
-    (goes_so g.D.Disk _
+    (goes_so g.D.Disk g.P.Port
     (AllBuilds c.args.builds.now) c.args.solo.now c.turn.new.self tree weights first h k so_far
     alone c.in-Some.before counted c.in-Ok.done turned heard)
