@@ -1114,8 +1114,16 @@ def own_again(tally):
         for host in hosts:
             host.start_node()
         for number in range(3):
-            until(lambda: set(first.jobs()) - answered)
-            unit, name = min(it for it in first.jobs().items() if it[0] not in answered)
+            waiting = {}
+
+            def has_more():
+                waiting.update((unit, name) for unit, name in first.jobs().items() if unit not in answered)
+                return bool(waiting)
+
+            if not until(has_more):
+                check(tally, "a node that is run again, its jobs before", False, number, answered, last_of(*hosts))
+                return
+            unit, name = min(waiting.items())
             answered.add(unit)
             if number == 2:
                 first.kill("node")
