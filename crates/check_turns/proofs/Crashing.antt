@@ -1,11 +1,9 @@
 -- A disk in memory that failed in a turn, and what a crash leaves of it.
 use Rattle.std.proofs.Common.{◌≡◌, ◌<◌, ℕ, length, slice_index_or, subst}
-use Rattle.std.specs.Prelude.{⊤}
 use Rattle.cluster_turns.proofs.Places.{stands_at}
 use Rattle.protocol.specs.Events.{Event}
 use Rattle.node.specs.State.{LoggedNode}
 use Rattle.stable_record.specs.Crash.{MayLeave}
-use Rattle.stable_record.specs.Failing.{history_of}
 use Rattle.stable_record.specs.InMemory.{mem_history}
 use Rattle.stable_record.specs.Memory.{left_file}
 use Rattle.stable_record.specs.declared.fault_disk.FaultDisk.{FaultDisk}
@@ -13,6 +11,7 @@ use Rattle.stable_record.specs.declared.mem_disk.Left.{Left}
 use Rattle.stable_record.specs.declared.mem_disk.MemDisk.{MemDisk}
 use Rattle.cluster_turns.specs.State.{ClusterState}
 use Rattle.cluster_turns.specs.Turn.{WentDown}
+use Rattle.check_turns.proofs.Records.{fault_disk}
 use Rattle.check_turns.specs.Reopened.{IsLeftOf}
 
 -- a crash may leave what the disk is set to leave
@@ -20,7 +19,7 @@ pub left_in_memory : {P : Type 0} (old new : ClusterState FaultDisk P) (e : Even
     → WentDown old new e k → (n : LoggedNode FaultDisk) → n ≡ slice_index_or new.nodes k n
     → k < length new.nodes → (inner : MemDisk) → inner ≡ n.log.disk.inner → (left : Left)
     → MayLeave (mem_history inner) (left_file left (mem_history inner))
-    → IsLeftOf (λ _. ⊤) history_of old new k (left_file left (mem_history inner))
+    → IsLeftOf fault_disk old new k (left_file left (mem_history inner))
 left_in_memory old new e k down n value below inner is_inner left may = record {
   before = down.before;
   stood = down.stood;

@@ -8,6 +8,7 @@ mod Idle
 mod InMemory
 mod Listed
 mod Offered
+mod Records
 mod Reopening
 mod Sending
 mod Showing
