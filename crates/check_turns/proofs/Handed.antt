@@ -29,7 +29,7 @@ use Rattle.lone_node.specs.Handed.{AllBuilds}
 use Rattle.lone_node.specs.State.{SoloState, me_of, member_up, only}
 use Rattle.lone_node.specs.Turn.{IsChosen, received_by}
 use Rattle.lone_node.specs.Turns.{IsTurn, Outcome}
-use Rattle.check_turns.proofs.Records.{mem_port}
+use Rattle.check_turns.proofs.Waiting.{mem_port}
 use Rattle.check_turns.specs.Handed.{HearsTheFirst, IsAbout, PutsItsSends}
 use Rattle.stable_record.specs.declared.disk.Disk.{Ghosts as Disk}
 

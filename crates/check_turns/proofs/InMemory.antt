@@ -23,8 +23,7 @@ use Rattle.cluster_turns.specs.Faults.{IsTurnFault}
 use Rattle.cluster_turns.specs.State.{ClusterState}
 use Rattle.cluster_turns.specs.Turn.{IsChosen, IsEventChosen}
 use Rattle.check_turns.proofs.Hearing.{hears}
-use Rattle.check_turns.proofs.Records.{mem_port}
-use Rattle.check_turns.proofs.Waiting.{after_both, after_receives, after_sends, gave_first, left_one, received_none, received_one, sends_answered}
+use Rattle.check_turns.proofs.Waiting.{after_both, after_receives, after_sends, gave_first, left_one, mem_port, received_none, received_one, sends_answered}
 use Rattle.check_turns.specs.Heard.{GaveJust}
 use Rattle.check_turns.specs.InMemory.{AreItsSends, HearsFirst, IsAnswered, TurnsInMemory, left_by, put_by_all, waits_for_answer}
 

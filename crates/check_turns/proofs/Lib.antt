@@ -8,7 +8,6 @@ mod Idle
 mod InMemory
 mod Listed
 mod Offered
-mod Records
 mod Reopening
 mod Sending
 mod Showing

@@ -5,8 +5,7 @@ use Rattle.stable_record.specs.InMemory.{mem_history}
 use Rattle.stable_record.specs.Memory.{left_file}
 use Rattle.stable_record.specs.Opening.{Opens}
 use Rattle.stable_record.specs.declared.fault_disk.FaultDisk.{FaultDisk}
-use Rattle.check_turns.proofs.Crashing.{left_in_memory}
-use Rattle.check_turns.proofs.Records.{fault_disk}
+use Rattle.check_turns.proofs.Crashing.{fault_disk, left_in_memory}
 use Rattle.check_turns.proofs.Reopening.{across, fell}
 use Rattle.check_turns.proofs.reopened.turn_then_crash.Goals as goal
 
