@@ -8,7 +8,7 @@ import sys
 import time
 
 from topics import packages
-from topics.played import LIMIT, MAKE, Driver as PlayedDriver, add, end_builds, has_text, laid, lines_of, node_alone, read, until
+from topics.played import LIMIT, MAKE, Driver as PlayedDriver, add, end_builds, has_text, laid, lines_of, node_alone, read, text_in, until
 from topics.tally import TOP
 
 # build-jobs with minutes of this many seconds
@@ -131,14 +131,6 @@ def between(lines, first, last):
     start = next((number for number, line in enumerate(lines) if line.startswith(first)), len(lines))
     end = next((number for number, line in enumerate(lines) if number > start and line.startswith(last)), len(lines))
     return lines[start:end]
-
-
-def text_in(path):
-    """What a file says that may go away at any time."""
-    try:
-        return read(path)
-    except FileNotFoundError:
-        return ""
 
 
 def failures(tally):
