@@ -123,8 +123,8 @@ fn build_on<F: LogFolder, E: Write>(
 ///
 /// # Errors
 ///
-/// Those of the start and of the work folder, in the order of `build_of_words`; out of memory if the
-/// node isn't at its end after as many turns as can be counted.
+/// Those of the start and of the work folder, in the order of `build_of_words`; out of memory if
+/// the node isn't at its end after as many turns as can be counted.
 pub fn build_from_start<'a, 'c, F: LogFolder, E: Write>(
     rt: &'c HostRuntime,
     folder: &F,
