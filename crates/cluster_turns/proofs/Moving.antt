@@ -263,95 +263,95 @@ module _ {D P : Type 0} (disk : Disk D) (port : Port P) (old new : ClusterState 
 module _ {D P : Type 0} (disk : Disk D) (port : Port P) (old new : ClusterState D P)
     (division : new.division ≡ old.division) (weights : new.weights ≡ old.weights)
     (r : PreparedStep) (e : Event) (goes : GoesDown disk port (turning_of old) (turning_of new) r e)
-    where
-  abbrev stop_due : IsDue old.nodes old.sent r e
-  stop_due = goes.due
+  where
+    abbrev stop_due : IsDue old.nodes old.sent r e
+    stop_due = goes.due
 
-  abbrev stopping : LoggedNode D
-  stopping = stop_due.at.node
+    abbrev stopping : LoggedNode D
+    stopping = stop_due.at.node
 
-  dropped : HasDropped old new r.node e stopping goes.after
-  dropped = record {
-    division = division;
-    weights = weights;
-    nodes = goes.nodes;
-    down = goes.failed.state;
-    sent = goes.sent;
-    events = goes.events;
-  }
+    dropped : HasDropped old new r.node e stopping goes.after
+    dropped = record {
+      division = division;
+      weights = weights;
+      nodes = goes.nodes;
+      down = goes.failed.state;
+      sent = goes.sent;
+      events = goes.events;
+    }
 
-  has_place : ¬ IsFull stopping.node (step_of old r e stop_due).answer.note
-  has_place =
-      no_room old r e stop_due
-      (has_room stopping.log (note_in r.readied.ready.step) goes.failed.room)
+    has_place : ¬ IsFull stopping.node (step_of old r e stop_due).answer.note
+    has_place =
+        no_room old r e stop_due
+        (has_room stopping.log (note_in r.readied.ready.step) goes.failed.room)
 
-  pub has_stopped : HasHappened old new (StopIn e left.None)
-  has_stopped =
-      went old r.node stopping stop_due.at.stands stop_due.at.up (asked_by r.readied.act)
-      stop_due.can e (event old r e stop_due) (step_of old r e stop_due) (takes old r e stop_due) has_place new goes.after dropped
+    pub has_stopped : HasHappened old new (StopIn e left.None)
+    has_stopped =
+        went old r.node stopping stop_due.at.stands stop_due.at.up (asked_by r.readied.act)
+        stop_due.can e (event old r e stop_due) (step_of old r e stop_due) (takes old r e stop_due) has_place new goes.after dropped
 
-  pub went_down : WentDown old new e r.node
-  went_down = record {
-    of_node = (event old r e stop_due).of_node;
-    before = stopping;
-    stood = stop_due.at.stands;
-    after = goes.after;
-    nodes = goes.nodes;
-    down = goes.failed.state;
-    sent = goes.sent;
-    pending = goes.pending;
-    events = goes.events;
-    stopped = has_stopped;
-    any_case = λ w l is.
-        stops old r.node stopping stop_due.at.stands stop_due.at.up (asked_by r.readied.act)
-        stop_due.can e (event old r e stop_due) (step_of old r e stop_due) (takes old r e stop_due) has_place w l is;
-  }
+    pub went_down : WentDown old new e r.node
+    went_down = record {
+      of_node = (event old r e stop_due).of_node;
+      before = stopping;
+      stood = stop_due.at.stands;
+      after = goes.after;
+      nodes = goes.nodes;
+      down = goes.failed.state;
+      sent = goes.sent;
+      pending = goes.pending;
+      events = goes.events;
+      stopped = has_stopped;
+      any_case = λ w l is.
+          stops old r.node stopping stop_due.at.stands stop_due.at.up (asked_by r.readied.act)
+          stop_due.can e (event old r e stop_due) (step_of old r e stop_due) (takes old r e stop_due) has_place w l is;
+    }
 
-  -- this holds whatever was left of this stop and of earlier ones
-  pub down_in_any : IsMade old.division old.weights → StandsInAnyCase old → StandsInAnyCase new
-  down_in_any made any =
-      stopped_in_any old r.node stopping stop_due.at.stands stop_due.at.up
-      (asked_by r.readied.act) stop_due.can e (event old r e stop_due) (step_of old r e stop_due)
-      (takes old r e stop_due) has_place made any new division weights goes.after goes.nodes
-      (ap (λ (x : NodeState). x.stopped) goes.failed.state) goes.sent goes.events
+    -- this holds whatever was left of this stop and of earlier ones
+    pub down_in_any : IsMade old.division old.weights → StandsInAnyCase old → StandsInAnyCase new
+    down_in_any made any =
+        stopped_in_any old r.node stopping stop_due.at.stands stop_due.at.up
+        (asked_by r.readied.act) stop_due.can e (event old r e stop_due) (step_of old r e stop_due)
+        (takes old r e stop_due) has_place made any new division weights goes.after goes.nodes
+        (ap (λ (x : NodeState). x.stopped) goes.failed.state) goes.sent goes.events
 
-  pub has_failed_at : HasFailedAt disk old new r.node
-  has_failed_at before after stood stands =
-      subst (λ (m : LoggedNode D). HasRisen (disk.failures_of before.log.disk)
-      (disk.failures_of m.log.disk))
-      (is_after old r e stop_due new goes.after goes.nodes after stands)
-      (subst (λ (m : LoggedNode D). HasRisen (disk.failures_of m.log.disk)
-      (disk.failures_of goes.after.log.disk))
-      (is_before old r e stop_due before stood) goes.failed.risen)
+    pub has_failed_at : HasFailedAt disk old new r.node
+    has_failed_at before after stood stands =
+        subst (λ (m : LoggedNode D). HasRisen (disk.failures_of before.log.disk)
+        (disk.failures_of m.log.disk))
+        (is_after old r e stop_due new goes.after goes.nodes after stands)
+        (subst (λ (m : LoggedNode D). HasRisen (disk.failures_of m.log.disk)
+        (disk.failures_of goes.after.log.disk))
+        (is_before old r e stop_due before stood) goes.failed.risen)
 
-  -- the event of the stop is this one
-  one_stop : (f : Event) → taken new ≡ taken old ++ StopIn f left.None ∷ [] → e ≡ f
-  one_stop f events =
-      let same : StopIn e left.None ≡ StopIn f left.None =
-      last_same (taken old) (StopIn e left.None) (StopIn f left.None) (sym goes.events ∙ events) in
-      cc
+    -- the event of the stop is this one
+    one_stop : (f : Event) → taken new ≡ taken old ++ StopIn f left.None ∷ [] → e ≡ f
+    one_stop f events =
+        let same : StopIn e left.None ≡ StopIn f left.None =
+        last_same (taken old) (StopIn e left.None) (StopIn f left.None) (sym goes.events ∙ events) in
+        cc
 
-  pub leaves_notes : AreOnLogs disk old → (f : Event)
-      → taken new ≡ taken old ++ StopIn f left.None ∷ [] → LeavesItsNotes disk old new f r.node
-  leaves_notes on_logs f events =
-      subst (λ g. LeavesItsNotes disk old new g r.node) (one_stop f events)
-      (step_leaves old r e stop_due new goes.after goes.nodes disk goes.failed.kept on_logs
-      goes.failed.any_moment)
+    pub leaves_notes : AreOnLogs disk old → (f : Event)
+        → taken new ≡ taken old ++ StopIn f left.None ∷ [] → LeavesItsNotes disk old new f r.node
+    leaves_notes on_logs f events =
+        subst (λ g. LeavesItsNotes disk old new g r.node) (one_stop f events)
+        (step_leaves old r e stop_due new goes.after goes.nodes disk goes.failed.kept on_logs
+        goes.failed.any_moment)
 
-  -- each disk that keeps to the disk model did so before
-  pub down_were_kept : WereKept disk old new
-  down_were_kept =
-      were_kept old r e stop_due new goes.after goes.nodes disk goes.failed.kept
+    -- each disk that keeps to the disk model did so before
+    pub down_were_kept : WereKept disk old new
+    down_were_kept =
+        were_kept old r e stop_due new goes.after goes.nodes disk goes.failed.kept
 
-  pub down_on_logs : AreOnLogs disk old → AreOnLogs disk new
-  down_on_logs on_logs j m at up kept = elim (cases_eq j r.node) [
-    | inl same ↦ absurd (true≢false (
-        sym (ap (λ (x : NodeState). x.stopped) goes.failed.state)
-        ∙ ap (λ (x : LoggedNode D). x.node.stopped)
-        (is_after old r e stop_due new goes.after goes.nodes m
-        (ap (slice_get new.nodes) (sym same) ∙ at))
-        ∙ up))
-    | inr other ↦
-        on_logs j m (off_place old.nodes new.nodes r.node j goes.after m other goes.nodes at) up
-        kept
-  ]
+    pub down_on_logs : AreOnLogs disk old → AreOnLogs disk new
+    down_on_logs on_logs j m at up kept = elim (cases_eq j r.node) [
+      | inl same ↦ absurd (true≢false (
+          sym (ap (λ (x : NodeState). x.stopped) goes.failed.state)
+          ∙ ap (λ (x : LoggedNode D). x.node.stopped)
+          (is_after old r e stop_due new goes.after goes.nodes m
+          (ap (slice_get new.nodes) (sym same) ∙ at))
+          ∙ up))
+      | inr other ↦
+          on_logs j m (off_place old.nodes new.nodes r.node j goes.after m other goes.nodes at) up
+          kept
+    ]
