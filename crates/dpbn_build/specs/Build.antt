@@ -106,8 +106,8 @@ RefusesWork has_notes r =
 
 -- A start in the run was made for the member, on a log without notes, in a folder in which a read
 -- of its run file gave this, and about whose log this is supposed.
-pub record HasBegunWithoutNotes (gave : Option Text → Type 0) (known : History) (of : RunOf) (me : ℕ)
-    : Type 0 where
+pub record HasBegunWithoutNotes (gave : Option Text → Type 0) (known : History) (of : RunOf)
+    (me : ℕ) : Type 0 where
   pub begun : Begun
   pub has_begun : HasBegun gave known of me begun
   pub lacks : LacksNotes (owner of.tree of.weights me) begun.start.disk

@@ -10,6 +10,7 @@ ghost use Rattle.std.specs.Prelude.{
   true,
 };
 ghost use Rattle.dpbn_build.specs.Build.{
+  HasBuilt,
   IsBuildText,
   IsDiskRefusal,
   IsLineAfter,
@@ -108,6 +109,39 @@ fn build_on<F: LogFolder, E: Write>(
         (λ before. IsLineAfter site.now.rest before me answer.text.items answer.status)) }
     ensures refused { IfErr result (RefusesBuildOn (F.had_mode folder.now)
         (F.gave folder.now me) (F.known folder.now me) (run_at tree.now weights.now place) me) }
+{
+    let solo = build_from_start(rt, folder, tree, weights, site, me, place, err)?;
+    match answer_of(rt.alloc(), &solo, me) {
+        Ok(answer) => Ok(answer),
+        Err(_) => Err(Refusal::memory()),
+    }
+}
+
+/// Starts the member's node at this place on its log in the folder, takes turns until the node is
+/// down or at rest, and returns it. `dpbn build` makes this call once it has read its files, and
+/// then prints the node's line.
+///
+/// # Errors
+///
+/// Those of the start and of the work folder, in the order of `build_of_words`; out of memory if
+/// the node isn't at its end after as many turns as can be counted.
+pub fn build_from_start<'a, 'c, F: LogFolder, E: Write>(
+    rt: &'c HostRuntime,
+    folder: &F,
+    tree: &'a Tree,
+    weights: &Weights,
+    site: &Site<'_>,
+    me: u8,
+    place: Place,
+    err: &mut E,
+) -> Result<Solo<'a, FileDisk, UdpPort<'c, HostRuntime>>, Refusal>
+    requires { length place.addresses.items ≡ length weights.now }
+    ensures member { IfOk result (λ solo. me < length weights.now) }
+    ensures built { IfOk result (λ solo. IsOfNode (F.gave folder.now me) (F.known folder.now me)
+        (run_at tree.entry.now weights.now place) me
+        (λ before. HasBuilt site.now.rest before solo)) }
+    ensures refused { IfErr result (RefusesBuildOn (F.had_mode folder.now) (F.gave folder.now me)
+        (F.known folder.now me) (run_at tree.entry.now weights.now place) me) }
 {
     let is_watched = place.sealing.is_watched();
     let mut place = place;
@@ -208,70 +242,49 @@ fn pace_of(site: &Site<'_>, takeover: u32) -> Pace {
     }
 }
 
-/// Runs the member's node on the log on which it starts.
-fn build_on_log<E: Write>(
-    rt: &HostRuntime,
+/// Runs the member's node on the log on which it starts, and returns it.
+fn build_on_log<'a, 'c, E: Write>(
+    rt: &'c HostRuntime,
     start: Start,
-    port: UdpPort<'_, HostRuntime>,
+    port: UdpPort<'c, HostRuntime>,
     office: Office<'_>,
-    tree: &Tree,
+    tree: &'a Tree,
     weights: &Weights,
     site: &Site<'_>,
     me: u8,
     err: &mut E,
-) -> Result<Answer, Refusal>
+) -> Result<Solo<'a, FileDisk, UdpPort<'c, HostRuntime>>, Refusal>
     requires { me < length weights.now }
-    ensures built { IfOk result (λ answer. IsOfNodeOn start.disk port.entry
-        tree.now weights.now me
-        (λ before. IsLineAfter site.now.rest before me answer.text.items answer.status)) }
+    ensures built { IfOk result (λ solo. IsOfNodeOn start.disk port.entry
+        tree.entry.now weights.now me (λ before. HasBuilt site.now.rest before solo)) }
     ensures refused { IfErr result RefusesOnLog }
 {
     let mut office = office;
     run_on_log(rt, start, port, &mut office, tree, weights, site, me, err)
 }
 
-/// Opens the member's node on the log on which it starts, and runs it.
-fn run_on_log<E: Write>(
-    rt: &HostRuntime,
+/// Opens the member's node on the log on which it starts, runs it, and returns it.
+fn run_on_log<'a, 'c, E: Write>(
+    rt: &'c HostRuntime,
     start: Start,
-    port: UdpPort<'_, HostRuntime>,
+    port: UdpPort<'c, HostRuntime>,
     office: &mut Office<'_>,
-    tree: &Tree,
+    tree: &'a Tree,
     weights: &Weights,
     site: &Site<'_>,
     me: u8,
     err: &mut E,
-) -> Result<Answer, Refusal>
+) -> Result<Solo<'a, FileDisk, UdpPort<'c, HostRuntime>>, Refusal>
     requires { me < length weights.now }
-    ensures built { IfOk result (λ answer. IsOfNodeOn start.disk port.entry
-        tree.now weights.now me
-        (λ before. IsLineAfter site.now.rest before me answer.text.items answer.status)) }
+    ensures built { IfOk result (λ solo. IsOfNodeOn start.disk port.entry
+        tree.entry.now weights.now me (λ before. HasBuilt site.now.rest before solo)) }
     ensures refused { IfErr result RefusesOnLog }
 {
     let mut solo = solo_on_log(rt, start, port, tree, weights, site.dir, me)?;
-    answer_after(rt, &mut solo, office, site.rest, me, err)
-}
-
-/// Runs the node's turns, and returns its answer.
-fn answer_after<E: Write>(
-    rt: &HostRuntime,
-    solo: &mut Solo<'_, FileDisk, UdpPort<'_, HostRuntime>>,
-    office: &mut Office<'_>,
-    rest: Option<u32>,
-    me: u8,
-    err: &mut E,
-) -> Result<Answer, Refusal>
-    ensures answer { IfOk result (λ answer.
-        IsLineAfter rest solo.old me answer.text.items answer.status) }
-    ensures refused { IfErr result RefusesOnLog }
-{
-    let is_ended = run(rt, solo, office, rest, err);
-    if !is_ended {
-        return Err(Refusal::memory());
-    }
-    match answer_of(rt.alloc(), solo, me) {
-        Ok(answer) => Ok(answer),
-        Err(_) => Err(Refusal::memory()),
+    if run(rt, &mut solo, office, site.rest, err) {
+        Ok(solo)
+    } else {
+        Err(Refusal::memory())
     }
 }
 

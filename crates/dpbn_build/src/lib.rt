@@ -11,7 +11,7 @@ mod pacing;
 mod turning;
 mod work_folder;
 
-pub use crate::answering::{build_of_words, has_notes, office_of};
+pub use crate::answering::{build_from_start, build_of_words, has_notes, office_of};
 pub use crate::office::Office;
 pub use crate::turning::run;
 pub use dpbn_node::{MemPort, Port, Solo, UdpPort, node_of_words};

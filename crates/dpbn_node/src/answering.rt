@@ -1,7 +1,7 @@
 //! The result of `dpbn node`.
-ghost use Rattle.std.specs.Prelude.{◌≡◌, ◌<◌, ◌≤◌, IfErr, IfOk, length, string_bytes};
-ghost use Rattle.dpbn_node.specs.Node.{IsLineAfter, IsNodeText, IsShown, RefusesNode};
-ghost use Rattle.dpbn_node.specs.Runs.{AreGood, RefusesStart, letters_of, run_at};
+ghost use Rattle.std.specs.Prelude.{◌≡◌, ◌<◌, ◌≤◌, IfErr, IfOk, length, string_bytes, true};
+ghost use Rattle.dpbn_node.specs.Node.{HasRun, IsNodeText, IsShown, RefusesNode};
+ghost use Rattle.dpbn_node.specs.Runs.{AreGood, IsOfNode, RefusesStart, letters_of, run_at};
 ghost use Rattle.program_io.specs.NodeLine.{IsLineOf};
 
 use crate::Telling;
@@ -80,48 +80,74 @@ fn run_on<F: LogFolder, E: Write>(
     ensures refused { IfErr result (RefusesStart (F.had_mode folder.now) (F.gave folder.now me) me
         (run_at tree.now given.now.weights place)) }
 {
-    let telling = Telling::new(rt.alloc(), me, files.progress, place.sealing.is_watched());
-    let begun = begin(rt, tree, &given.weights, folder, me, place)?;
-    let Begun { start, port } = begun;
-    let solo = solo_on_log(rt, start, port, tree, &given.weights, files.dir, me)?;
-    match line_after(
-        rt.alloc(),
-        solo,
-        &given.builds,
-        files.turns,
+    let mut telling = Telling::new(rt.alloc(), me, files.progress, place.sealing.is_watched());
+    let solo = run_from_start(
+        rt,
+        folder,
+        files.dir,
+        tree,
+        given,
         me,
-        telling,
+        place,
+        files.turns,
+        &mut telling,
         err,
-    ) {
+    )?;
+    match line_of(rt.alloc(), &solo, me) {
         Ok(line) => Ok(line),
         Err(_) => Err(Refusal::memory()),
     }
 }
 
-/// The line of the node after it took its turns.
+/// Starts the member's node at this place on its log in the folder, whose path is `dir`. Takes the
+/// given number of turns, and returns the node as they left it. `dpbn node` makes this call once it
+/// has read its files, and then prints the node's line.
 ///
 /// # Errors
 ///
-/// Out of memory, for the line or in too many turns.
-fn line_after<E: Write>(
+/// Those of the start; out of memory in too many turns.
+pub fn run_from_start<'a, 'c, F: LogFolder, E: Write>(
+    rt: &'c HostRuntime,
+    folder: &F,
+    dir: &str,
+    tree: &'a Tree,
+    given: &Given,
+    me: u8,
+    place: Place,
+    turns: u32,
+    telling: &mut Telling,
+    err: &mut E,
+) -> Result<Solo<'a, FileDisk, UdpPort<'c, HostRuntime>>, Refusal>
+    requires { length place.addresses.items ≡ length given.now.weights }
+    ensures member { IfOk result (λ solo. me < length given.now.weights) }
+    ensures ran { IfOk result (λ solo. IsOfNode (F.gave folder.now me) (F.known folder.now me)
+        (run_at tree.entry.now given.now.weights place) me
+        (λ before. HasRun given.now.builds turns before solo)) }
+    ensures refused { IfErr result (RefusesStart (F.had_mode folder.now) (F.gave folder.now me) me
+        (run_at tree.entry.now given.now.weights place)) }
+{
+    let begun = begin(rt, tree, &given.weights, folder, me, place)?;
+    let Begun { start, port } = begun;
+    let mut solo = solo_on_log(rt, start, port, tree, &given.weights, dir, me)?;
+    if takes_all(rt.alloc(), &mut solo, &given.builds, turns, telling, err) {
+        Ok(solo)
+    } else {
+        Err(Refusal::memory())
+    }
+}
+
+/// Takes the given number of turns, and returns whether all of them were taken.
+fn takes_all<E: Write>(
     alloc: Global,
-    solo: Solo<'_, FileDisk, UdpPort<'_, HostRuntime>>,
+    solo: &mut Solo<'_, FileDisk, UdpPort<'_, HostRuntime>>,
     builds: &Packages,
     turns: u32,
-    me: u8,
-    telling: Telling,
+    telling: &mut Telling,
     err: &mut E,
-) -> Result<String, AllocError>
-    ensures { IfOk result (λ text.
-        IsLineAfter builds.now turns solo.entry me (string_bytes text)) }
+) -> bool
+    ensures { result ≡ true → HasRun builds.now turns solo.old solo.new }
 {
-    let mut solo = solo;
-    let mut telling = telling;
-    let taken = run(alloc, &mut solo, builds, turns, &mut telling, err);
-    if taken != turns {
-        return Err(AllocError);
-    }
-    line_of(alloc, &solo, me)
+    run(alloc, solo, builds, turns, telling, err) == turns
 }
 
 /// The line of the node in its present state.

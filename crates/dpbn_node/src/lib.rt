@@ -12,7 +12,7 @@ mod starting;
 mod telling;
 mod turning;
 
-pub use crate::answering::{line_of, node_of_words};
+pub use crate::answering::{line_of, node_of_words, run_from_start};
 pub use crate::given::{Given, given_of_words, log_of_file, weights_of_words};
 pub use crate::identity::{identity_of, start_of, write_unwritten};
 pub use crate::laws::faults_are_counted;

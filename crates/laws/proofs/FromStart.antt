@@ -1,11 +1,10 @@
 -- A program's start and its turns are among the things that programs do.
-use Rattle.std.proofs.Common.{◌≡◌, ◌∙◌, ℕ, List, [], ◌∷◌, Option, Some, refl, ap, subst}
+use Rattle.std.proofs.Common.{◌≡◌, ℕ, List, [], ◌∷◌, Option, refl, ap, subst}
 use Rattle.std.specs.declared.rt.LibcRuntime.{LibcRuntime}
 use Rattle.dpbn_build.specs.Build.{HasBuilt}
 use Rattle.dpbn_build.specs.Turns.{Turn}
 use Rattle.dpbn_node.specs.Node.{HasRun}
-use Rattle.dpbn_node.specs.Runs.{HasBegun, HasFlushed, IsOfNode, IsOfNodeOn, IsOpenedOn, RunOf, Running}
-use Rattle.dpbn_node.specs.declared.starting.Begun.{Begun}
+use Rattle.dpbn_node.specs.Runs.{HasFlushed, IsOfNode, IsOpenedOn, RunOf, Running}
 use Rattle.faults.specs.Bytes.{Text}
 use Rattle.laws.proofs.BuildPrograms.{build_turns}
 use Rattle.laws.proofs.OneProgram.{IsThere, flushes, node_turns}
@@ -58,7 +57,7 @@ module _ (tree : Tree) (weights : List ℕ) (k : ℕ) (known : History) (log : F
   -- it is one of the things that programs do
   starts : IsThere tree weights k first (once_started early k before) before
   starts = record {
-    did = run.started early (once_started early k before) down.did (record {
+    did = run.went_on early (once_started early k before) down.did (run.started (record {
       number = k;
       file = seen known;
       rests = down.rests;
@@ -72,7 +71,7 @@ module _ (tree : Tree) (weights : List ℕ) (k : ℕ) (known : History) (log : F
       };
       places = refl;
       offered = refl;
-    });
+    }));
     here = set_there early.places k (Rests (seen known)) (Runs before) down.rests;
   }
 
@@ -86,85 +85,58 @@ ends tree weights k first late last new there flushed =
 
 -- ---- the whole way
 
-module _ (gave : Option Text → Type 0) (known : History) (of : RunOf) (me : ℕ) (begun : Begun)
-    (has : HasBegun gave known of me begun) where
+module _ (gave : Option Text → Type 0) (known : History) (of : RunOf) (me : ℕ) where
   pub node_from_start : (builds : Given) (turns : ℕ) (after : Running)
-      → IsOfNodeOn begun.start.disk begun.port of.tree of.weights me
-      (λ before. HasRun builds turns before after)
+      → IsOfNode gave known of me (λ before. HasRun builds turns before after)
       → IsOfNode gave known of me
       (λ before. HasRunFromStart of.tree of.weights me known builds turns before after)
-  node_from_start builds turns after on = record {
-    begun = begun;
-    has_begun = has;
-    opened = record {
-      before = on.before;
-      opened = on.opened;
-      is = record {
-        run = on.is;
-        of_programs = λ first early late down agrees happened.
-            ends of.tree of.weights me first late on.is.last after
-            (node_turns of.tree of.weights me first (AllBuilds builds) on.before
-            on.is.turned.answers on.is.last on.is.turned.led (once_started early me on.before) late
-            (starts of.tree of.weights me known begun.start.disk begun.port
-            has.started.planned.looked on.before on.opened first early down
-            (agreed_node (AllBuilds builds) on.before on.is.turned.answers on.is.last
-            on.is.turned.led (agreed_flush on.is.last after on.is.flushed agrees))) happened)
-            on.is.flushed;
-      };
-    };
-  }
+  node_from_start builds turns after ran =
+      let on = ran.opened in
+      record {
+        begun = ran.begun;
+        has_begun = ran.has_begun;
+        opened = record {
+          before = on.before;
+          opened = on.opened;
+          is = record {
+            run = on.is;
+            of_programs = λ first early late down agrees happened.
+                ends of.tree of.weights me first late on.is.last after
+                (node_turns of.tree of.weights me first (AllBuilds builds) on.before
+                on.is.turned.answers on.is.last on.is.turned.led
+                (once_started early me on.before) late
+                (starts of.tree of.weights me known ran.begun.start.disk ran.begun.port
+                ran.has_begun.started.planned.looked on.before on.opened first early down
+                (agreed_node (AllBuilds builds) on.before on.is.turned.answers on.is.last
+                on.is.turned.led (agreed_flush on.is.last after on.is.flushed agrees))) happened)
+                on.is.flushed;
+          };
+        };
+      }
 
   pub build_from_start : (rest : Option ℕ) (after : Running)
-      → IsOfNodeOn begun.start.disk begun.port of.tree of.weights me
-      (λ before. HasBuilt rest before after)
+      → IsOfNode gave known of me (λ before. HasBuilt rest before after)
       → IsOfNode gave known of me
       (λ before. HasBuiltFromStart of.tree of.weights me known rest before after)
-  build_from_start rest after on = record {
-    begun = begun;
-    has_begun = has;
-    opened = record {
-      before = on.before;
-      opened = on.opened;
-      is = record {
-        run = on.is;
-        of_programs = λ first early late down agrees happened.
-            ends of.tree of.weights me first late on.is.last after
-            (build_turns of.tree of.weights me first on.before on.is.turned.turns on.is.last
-            on.is.turned.led (once_started early me on.before) late
-            (starts of.tree of.weights me known begun.start.disk begun.port
-            has.started.planned.looked on.before on.opened first early down
-            (agreed_build on.before on.is.turned.turns on.is.last on.is.turned.led
-            (agreed_flush on.is.last after on.is.flushed agrees))) happened)
-            on.is.flushed;
-      };
-    };
-  }
-
--- a start whose log has this disk now
-abbrev pub on_disk : Begun → FileDisk → Begun
-on_disk begun disk = record {
-  start = record { disk = disk; unwritten = begun.start.unwritten };
-  port = begun.port;
-}
-
--- it is a start still, if its log was only looked at once more
-pub looked_again : (gave : Option Text → Type 0) (known : History) (of : RunOf) (me : ℕ)
-    (begun : Begun) (disk : FileDisk) → (file_agrees disk → file_agrees begun.start.disk)
-    → (file_agrees disk → file_history disk ≡ file_history begun.start.disk)
-    → HasBegun gave known of me begun
-    → HasBegun gave known of me (on_disk begun disk)
-looked_again gave known of me begun disk kept same has = record {
-  started = record {
-    plan = has.started.plan;
-    planned = record {
-      log = has.started.planned.log;
-      found = λ agrees. has.started.planned.found (kept agrees);
-      judged = has.started.planned.judged;
-      looked = λ agrees. same agrees ∙ has.started.planned.looked (kept agrees);
-    };
-    is_unwritten = has.started.is_unwritten;
-  };
-  seated = has.seated;
-  guarded = has.guarded;
-  empty = has.empty;
-}
+  build_from_start rest after ran =
+      let on = ran.opened in
+      record {
+        begun = ran.begun;
+        has_begun = ran.has_begun;
+        opened = record {
+          before = on.before;
+          opened = on.opened;
+          is = record {
+            run = on.is;
+            of_programs = λ first early late down agrees happened.
+                ends of.tree of.weights me first late on.is.last after
+                (build_turns of.tree of.weights me first on.before on.is.turned.turns on.is.last
+                on.is.turned.led (once_started early me on.before) late
+                (starts of.tree of.weights me known ran.begun.start.disk ran.begun.port
+                ran.has_begun.started.planned.looked on.before on.opened first early down
+                (agreed_build on.before on.is.turned.turns on.is.last on.is.turned.led
+                (agreed_flush on.is.last after on.is.flushed agrees))) happened)
+                on.is.flushed;
+          };
+        };
+      }

@@ -15,18 +15,8 @@ use Rattle.udp.specs.declared.udp_port.UdpPort.{UdpPort}
 then_runs : (tree : Tree) (weights : List ℕ) (first mid last : Programs)
     → HaveRun tree weights first mid → HaveRun tree weights mid last → HaveRun tree weights first last
 then_runs tree weights first mid _ before run.nothing_yet = before
-then_runs tree weights first mid _ before (run.started p q did s) =
-    run.started p q (then_runs tree weights first mid p before did) s
-then_runs tree weights first mid _ before (run.waited p q did s) =
-    run.waited p q (then_runs tree weights first mid p before did) s
-then_runs tree weights first mid _ before (run.turned p q did s) =
-    run.turned p q (then_runs tree weights first mid p before did) s
-then_runs tree weights first mid _ before (run.ended p q did s) =
-    run.ended p q (then_runs tree weights first mid p before did) s
-then_runs tree weights first mid _ before (run.killed p q did s) =
-    run.killed p q (then_runs tree weights first mid p before did) s
-then_runs tree weights first mid _ before (run.killed_in_start p q did s) =
-    run.killed_in_start p q (then_runs tree weights first mid p before did) s
+then_runs tree weights first mid _ before (run.went_on p q did it) =
+    run.went_on p q (then_runs tree weights first mid p before did) it
 
 module _ (tree : Tree) (weights : List ℕ) (k : ℕ) (first : Programs) where
   -- the member's program runs in this state
@@ -47,7 +37,7 @@ module _ (tree : Tree) (weights : List ℕ) (k : ℕ) (first : Programs) where
       → IsThere p before → (turn : run.IsProgramTurn handed before after answer)
       → IsTurnThere k handed before after answer turn p q → IsThere q after
   takes p q handed before after answer there turn is = record {
-    did = run.turned p q there.did (record {
+    did = run.went_on p q there.did (run.turned (record {
       number = k;
       before = before;
       runs = there.here;
@@ -61,7 +51,7 @@ module _ (tree : Tree) (weights : List ℕ) (k : ℕ) (first : Programs) where
       };
       places = is.places;
       offered = is.offered;
-    });
+    }));
     here = ap (λ l. slice_get l k) is.places ∙ set_there p.places k (Runs before) (Runs after) there.here;
   }
 
@@ -75,14 +65,14 @@ module _ (tree : Tree) (weights : List ℕ) (k : ℕ) (first : Programs) where
   pub port_changes : (p : Programs) (s : Running) (port : UdpPort LibcRuntime) → IsThere p s
       → IsThere (with_port p s port) (record s { port = port })
   port_changes p s port there = record {
-    did = run.waited p (with_port p s port) there.did (record {
+    did = run.went_on p (with_port p s port) there.did (run.waited (record {
       number = k;
       state = s;
       runs = there.here;
       port = port;
       places = refl;
       offered = refl;
-    });
+    }));
     here = set_there p.places k (Runs s) (Runs (record s { port = port })) there.here;
   }
 

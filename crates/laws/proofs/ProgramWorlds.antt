@@ -10,7 +10,7 @@ use Rattle.laws.proofs.Running.{a_world}
 use Rattle.laws.specs.Hosts.{Down, Host, Hosts, IsLeft, Up, at_start}
 use Rattle.laws.specs.ProgramLaws.{ProgramsMakeAWorld}
 use Rattle.laws.specs.Programs as run
-use Rattle.laws.specs.Programs.{HasEnded, HasStarted, HasTurned, HasWaited, HaveRun, Programs, Rests, Runs, WasKilled, WasKilledInStart, at_first}
+use Rattle.laws.specs.Programs.{Happened, HasEnded, HasStarted, HasTurned, HasWaited, HaveRun, Programs, Rests, Runs, WasKilled, WasKilledInStart, at_first}
 use Rattle.laws.specs.Run as hosts
 use Rattle.laws.specs.Run.{Run}
 use Rattle.listing.specs.Tree.{Tree}
@@ -209,25 +209,23 @@ module _ (tree : Tree) (weights : List ℕ) (first : Hosts) where
 
   -- ---- all of it
 
+  -- one thing more happens
+  one_more : (p q : Programs) → HasRunOn p → Happened tree weights p q → HasRunOn q
+  one_more p q (h, so_far, are) (run.started s) =
+      starts p q h so_far are s (are.each s.number (Rests s.file) s.rests)
+  one_more p q (h, so_far, are) (run.waited w) =
+      waits p q h so_far are w (are.each w.number (Runs w.state) w.runs)
+  one_more p q (h, so_far, are) (run.turned t) = turns p q h so_far are t
+  one_more p q (h, so_far, are) (run.ended e) =
+      ends p q h so_far are e (are.each e.number (Runs e.state) e.runs)
+  one_more p q (h, so_far, are) (run.killed e) =
+      is_killed p q h so_far are e (are.each e.number (Runs e.before) e.runs)
+  one_more p q (h, so_far, are) (run.killed_in_start s) =
+      is_killed_in_start p q h so_far are s (are.each s.number (Rests s.file) s.rests)
+
   pub runs_on : (early p : Programs) → HasRunOn early → HaveRun tree weights early p → HasRunOn p
   runs_on early _ at run.nothing_yet = at
-  runs_on early _ at (run.started p q did s) =
-      let b = runs_on early p at did in
-      starts p q b.0 b.1 b.2 s ((b.2).each s.number (Rests s.file) s.rests)
-  runs_on early _ at (run.waited p q did w) =
-      let b = runs_on early p at did in
-      waits p q b.0 b.1 b.2 w ((b.2).each w.number (Runs w.state) w.runs)
-  runs_on early _ at (run.turned p q did t) =
-      let b = runs_on early p at did in turns p q b.0 b.1 b.2 t
-  runs_on early _ at (run.ended p q did e) =
-      let b = runs_on early p at did in
-      ends p q b.0 b.1 b.2 e ((b.2).each e.number (Runs e.state) e.runs)
-  runs_on early _ at (run.killed p q did e) =
-      let b = runs_on early p at did in
-      is_killed p q b.0 b.1 b.2 e ((b.2).each e.number (Runs e.before) e.runs)
-  runs_on early _ at (run.killed_in_start p q did s) =
-      let b = runs_on early p at did in
-      is_killed_in_start p q b.0 b.1 b.2 s ((b.2).each s.number (Rests s.file) s.rests)
+  runs_on early _ at (run.went_on p q did it) = one_more p q (runs_on early p at did) it
 
 pub programs_make_a_world : ProgramsMakeAWorld
 programs_make_a_world division weights p made did =

@@ -135,23 +135,21 @@ pub record WasKilledInStart (tree : Tree) (weights : List ℕ) (old new : Progra
   pub places : new.places ≡ slice_set old.places number (Rests new_file)
   pub offered : new.offered ≡ old.offered
 
--- All programs run over one tree and the same weights, and these things happened, one after the
--- other. Turns of programs that run at the same time are put in the order in which they end: what a
--- turn offers to other nodes doesn't leave its port before that.
+-- One thing happened: a program started, waited, took a turn, ended, or was killed.
+pub data Happened (tree : Tree) (weights : List ℕ) (old new : Programs) : Type 0 where
+  started : HasStarted tree weights old new → Happened tree weights old new
+  waited : HasWaited old new → Happened tree weights old new
+  turned : HasTurned old new → Happened tree weights old new
+  ended : HasEnded old new → Happened tree weights old new
+  killed : WasKilled old new → Happened tree weights old new
+  killed_in_start : WasKilledInStart tree weights old new → Happened tree weights old new
+
+-- All programs run over one tree and the same weights, and things happened, one after the other.
+-- Turns of programs that run at the same time are put in the order in which they end: what a turn
+-- offers to other nodes doesn't leave its port before that.
 pub data HaveRun (tree : Tree) (weights : List ℕ) (first : Programs) : Programs → Type 0 where
   nothing_yet : HaveRun tree weights first first
-  started : (p q : Programs) → HaveRun tree weights first p → HasStarted tree weights p q
-      → HaveRun tree weights first q
-  waited : (p q : Programs) → HaveRun tree weights first p → HasWaited p q
-      → HaveRun tree weights first q
-  turned : (p q : Programs) → HaveRun tree weights first p → HasTurned p q
-      → HaveRun tree weights first q
-  ended : (p q : Programs) → HaveRun tree weights first p → HasEnded p q
-      → HaveRun tree weights first q
-  killed : (p q : Programs) → HaveRun tree weights first p → WasKilled p q
-      → HaveRun tree weights first q
-  killed_in_start : (p q : Programs) → HaveRun tree weights first p
-      → WasKilledInStart tree weights p q
+  went_on : (p q : Programs) → HaveRun tree weights first p → Happened tree weights p q
       → HaveRun tree weights first q
 
 -- ---- the turns that a program takes, and what others do in between

@@ -1,22 +1,18 @@
-use Rattle.std.proofs.Common.{inl, inr, ⊎_elim}
-use Rattle.std.proofs.lemmas.Result.{err_from_is_err_and}
 use Rattle.dpbn_node.proofs.answering.run_on.Goals as goal
-
-pub returns-in_err-solo-clause-refused : goal.returns-in_err-solo-clause-refused
-returns-in_err-solo-clause-refused g c =
-    let p = err_from_is_err_and c.from_residual-in_err-solo.result
-    c.from_residual-in_err-solo.ensures.1 in
-    rw (p.1, p.2) (⊎_elim (λ system. inl system) (λ log. inr (inr (inr (inr log))))
-    c.in_err-solo.ensures.refused)
 
 pub returns-in-Ok-clause-shown : goal.returns-in-Ok-clause-shown
 returns-in-Ok-clause-shown g c =
+    let ran = c.in_ok-solo.ensures.ran in
     record {
-      begun = c.in_ok-begun.begun;
-      has_begun = c.in_ok-begun.ensures.begun;
+      begun = ran.begun;
+      has_begun = ran.has_begun;
       opened = record {
-        before = c.in_ok-solo.solo;
-        opened = c.in_ok-solo.ensures.opened;
-        is = c.in-Ok.ensures;
+        before = ran.opened.before;
+        opened = ran.opened.opened;
+        is = record {
+          after = c.in_ok-solo.solo;
+          run = ran.opened.is;
+          is_line = c.in-Ok.ensures;
+        };
       };
     }

@@ -1,24 +1,13 @@
-use Rattle.std.proofs.Common.{inl, inr, ⊎_elim}
-use Rattle.std.proofs.lemmas.Result.{err_from_is_err_and}
+use Rattle.std.proofs.lemmas.Result.{IfOk-weaker}
 use Rattle.dpbn_node.specs.Runs.{run_at}
 use Rattle.laws.proofs.FromStart.{node_from_start}
 use Rattle.laws.proofs.from_start.node_from_start.Goals as goal
 
-pub returns-in_err-solo-clause-refused : goal.returns-in_err-solo-clause-refused
-returns-in_err-solo-clause-refused g c =
-    let p = err_from_is_err_and c.from_residual-in_err-solo.result
-    c.from_residual-in_err-solo.ensures.1 in
-    rw (p.1, p.2) (⊎_elim (λ system. inl system) (λ log. inr (inr (inr (inr log))))
-    c.in_err-solo.ensures.refused)
-
-pub returns-then-takes_all-clause-ran : goal.returns-then-takes_all-clause-ran
-returns-then-takes_all-clause-ran g c =
-    node_from_start (g.F.LogFolder.gave c.args.folder.now c.args.me)
+pub returns-clause-ran : goal.returns-clause-ran
+returns-clause-ran g c =
+    IfOk-weaker c.run_from_start.result _ _
+    (λ solo ran. node_from_start (g.F.LogFolder.gave c.args.folder.now c.args.me)
     (g.F.LogFolder.known c.args.folder.now c.args.me)
-    (run_at c.args.tree.now c.args.given.now.weights c.args.place) c.args.me c.in_ok-begun.begun
-    c.in_ok-begun.ensures.begun c.args.given.now.builds c.args.turns c.takes_all.new.solo
-    (record {
-      before = c.in_ok-solo.solo;
-      opened = c.in_ok-solo.ensures.opened;
-      is = c.takes_all.ensures c.if-takes_all.true;
-    })
+    (run_at c.args.tree.now c.args.given.now.weights c.args.place) c.args.me
+    c.args.given.now.builds c.args.turns solo ran)
+    c.run_from_start.ensures.ran
