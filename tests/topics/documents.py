@@ -34,9 +34,9 @@ WRITTEN = 2500
 WORDS_BEFORE, SENTENCES_BEFORE = 5347, 518
 MOST_WORDS, MOST_SENTENCES = 197, 29
 # Files with lines that are too long. To break them would have all crates above proved again, so that is done at their next change.
-TOO_WIDE = {"crates/scheduler/specs/Wishing.antt"}
+TOO_WIDE: Set[str] = set()
 # Files with definitions that are too long, likewise.
-TOO_LONG = {f"crates/{it}" for it in ("scheduler/specs/Keeping.antt", "udp/specs/Notifying.antt")}
+TOO_LONG = {"crates/udp/specs/Notifying.antt"}
 # Lemmas that are public although no other crate cites them since crates were merged, likewise.
 NOT_CITED = {"seals": {"Lengths"}}
 

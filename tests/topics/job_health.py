@@ -1,5 +1,5 @@
 """Builds that fail for a reason of the host: with 75, or by a signal that tools/build-jobs didn't send. The minutes of the driver are made
-short by a module that is loaded before it."""
+short by a module that is loaded before it. And builds that fail in a row, so that the host pauses."""
 import os
 import re
 import signal
@@ -7,7 +7,8 @@ import subprocess
 import sys
 import time
 
-from topics.played import LIMIT, MAKE, add, end_builds, has_text, lines_of, node_alone, read, until
+from topics import packages
+from topics.played import LIMIT, MAKE, Driver as PlayedDriver, add, end_builds, has_text, laid, lines_of, node_alone, read, text_in, until
 from topics.tally import TOP
 
 # build-jobs with minutes of this many seconds
@@ -125,6 +126,49 @@ def away_without_a_command(tally):
         end_builds(node)
 
 
+def between(lines, first, last):
+    """The lines from the first one that begins so to the next one that does."""
+    start = next((number for number, line in enumerate(lines) if line.startswith(first)), len(lines))
+    end = next((number for number, line in enumerate(lines) if number > start and line.startswith(last)), len(lines))
+    return lines[start:end]
+
+
+def failures(tally):
+    """After three builds in a row that failed the host is away for 5 seconds, and after the next failure for 10. Nothing begins meanwhile,
+    each failure is marked once, and all else is built once builds succeed."""
+    begins, again = "~ this host begins nothing for", "~ this host begins builds again, after"
+    why = "builds in a row failed, the last: a/p[0-9]{2}, status 1"
+    with laid(f'[ -e "$TOP/up" ] || exit 1; {MAKE}', "-j", "2") as (node, driver):
+        names = {node.post(f"a/p{number:02}"): f"a/p{number:02}" for number in range(16)}
+        there = until(lambda: re.fullmatch(f"[0-9]+ {why}\n", text_in(f"{node.work}/away")))
+        add(tally, "failures in a row", driver.tells(f"{begins} 5 s: 3 {why}") and there, there, driver.lines())
+        # what was about to begin has begun, at the other place than that of the third failure
+        told = driver.tells(f"{again} ([5-9]|[0-9]{{2,}}) s") and between(driver.lines(), f"{begins} 5 s", again)
+        begun = [line for line in told or () if line.startswith("> ")]
+        add(tally, "the same, what begins in the pause", bool(told) and len(begun) <= 1, told, driver.lines())
+        add(tally, "the same, a failure after the pause", driver.tells(f"{begins} 10 s: [0-9]+ {why}"), driver.lines())
+        with open(f"{node.folder}/up", "w"):
+            ended = until(lambda: all(any(os.path.exists(f"{node.work}/{part}/{name}") for part in ("done", "failed")) for name in names))
+        marks = sorted(names[name] for name in os.listdir(f"{node.work}/failed"))
+        once = until(lambda: sorted(line.split(" ")[1] for line in driver.lines() if line.startswith("! ")) == marks and driver.begun() == 16)
+        add(tally, "the same, each is marked once", ended and once and 4 <= len(marks) < 16, marks, driver.lines())
+        gone = until(lambda: not os.path.exists(f"{node.work}/away"))
+        add(tally, "the same, once builds succeed", gone and len(os.listdir(f"{node.work}/done")) == 16 - len(marks), driver.lines())
+
+
+def no_pause(tally):
+    """A lone member never pauses, and neither does one for which that is said: there is nobody else, or somebody looks after it."""
+    for what, weights, words in (("a lone member", (1,), ()), ("--failures 0", (1, 1, 1), ("--failures", "0"))):
+        with node_alone() as node:
+            with open(node.log, "wb") as file:
+                file.write(packages.log([], weights))
+            driver = PlayedDriver(node, "exit 1", "-j", "2", *words)
+            marks = [bool(node.failed(node.post(f"a/p{number}"))) for number in range(5)]
+            paused = [line for line in driver.lines() if line.startswith("~ ")]
+            add(tally, f"failures in a row, {what}", all(marks) and not paused and not os.path.exists(f"{node.work}/away"), marks, driver.lines())
+            driver.end()
+
+
 def run(tally):
-    for one in (given_back, again_and_again, away, away_without_a_command):
+    for one in (given_back, again_and_again, away, away_without_a_command, failures, no_pause):
         tally.case(one)

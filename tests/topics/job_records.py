@@ -65,7 +65,7 @@ def seen(tally):
              ("one less", "a-1\n", None, "b-1 is in DEPS, and wasn't installed before the build"),
              ("no names", "a-1\nb-1 x\n", None, "OUT/SEEN-BEFORE: line 2 isn't `NAME` or `NAME SHA256`"))
     script = 'for f in SEEN-BEFORE SEEN-AFTER; do [ ! -e "$TOP/$f" ] || cp "$TOP/$f" "$OUT/$f"; done; ' + MAKE
-    with laid(script) as (node, driver):
+    with laid(script, "--failures", "0") as (node, driver):
         node.hold("x/a", {"x/a": [("a-1.tgz", text)]}, names={"x/a": "a-1"})
         node.hold("x/b", {"x/b": [("b-1.tgz", b"b")]}, names={"x/b": "b-1"})
         for number, (what, before, after, why) in enumerate(cases):
@@ -170,7 +170,7 @@ def example_failures(tally):
         ports.add("devel/installs", {"devel/installs": "installs-1"}, installs="c-1")
         ports.add("devel/x", {"devel/x": "x-1"})
         path = listing(node, {"devel/needs": "needs-1", "devel/other": "other-1", "devel/installs": "installs-1", "devel/x": "x-1", "devel/y": "y-1"})
-        driver = example_driver(node, path)
+        driver = example_driver(node, path, "--failures", "0")
 
         def fails(what, unit, why, last=""):
             marked = node.failed(node.post(unit)) or ""

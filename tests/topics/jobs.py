@@ -459,7 +459,7 @@ def stand_ins(tally):
 def words(tally):
     """Wrong words are reported, and nothing is made."""
     with tempfile.TemporaryDirectory() as folder:
-        for wrong in (["-j", "0"], ["-j", "65"], ["--digests", "x"], []):
+        for wrong in (["-j", "0"], ["-j", "65"], ["--digests", "x"], ["--failures", "1001"], ["--failures", "-1"], []):
             said = packages.tool("build-jobs", *wrong, f"{folder}/work", *([f"{folder}/log", "--", "true"] if wrong else []))
             add(tally, f"the words {' '.join(wrong)}", said[2] == 2 and os.listdir(folder) == [], said)
 

@@ -140,9 +140,17 @@ def without_seconds(lines):
     return [re.sub(r"\b[0-9]+ s\b", "N s", line) for line in lines]
 
 
+def text_in(path):
+    """What a file says that may go away at any time; nothing if it isn't there."""
+    try:
+        return read(path)
+    except FileNotFoundError:
+        return ""
+
+
 def has_text(path):
     """Whether the file is there, and has a line."""
-    return os.path.exists(path) and read(path).endswith("\n")
+    return text_in(path).endswith("\n")
 
 
 class Driver:

@@ -20,6 +20,8 @@ from dpbn_tools.driver.build import Build, adopted, ended_by
 from dpbn_tools.driver.buildlogs import shift
 from dpbn_tools.driver.command import helper
 from dpbn_tools.driver.driver import Driver
+from dpbn_tools.driver.failures import Failures
+from dpbn_tools.driver.handin import Failed
 from dpbn_tools.driver.health import Health
 from dpbn_tools.driver.held import Held
 from dpbn_tools.driver.job import Job, NoJob
@@ -372,8 +374,9 @@ def health(tmp_path, monkeypatch):
     clock = [0.0]
     monkeypatch.setattr(healths.time, "monotonic", lambda: clock[0])
     told = []
-    it = Health(WorkFolder(f"{tmp_path}/work"), None, lambda: f"{tmp_path}/ready.log", told.append)
-    it.clock, it.told = clock, told
+    members = [3]
+    it = Health(WorkFolder(f"{tmp_path}/work"), None, lambda: f"{tmp_path}/ready.log", told.append, Failures(3, lambda: members[0], told.append))
+    it.clock, it.told, it.members = clock, told, members
     return it
 
 
@@ -429,6 +432,180 @@ def test_a_disk_that_stays_full_is_away(health):
     health.set_short("")
     health.look()
     assert not os.path.exists(f"{health.work.path}/away")
+
+
+# ---- failures in a row
+
+def away_of(health):
+    """What the file says after a look; nothing if it isn't there."""
+    health.look()
+    path = f"{health.work.path}/away"
+    return open(path, encoding="ascii").read() if os.path.exists(path) else ""
+
+
+def fail(health, *units, pauses=None):
+    """Has builds of these units fail that began a moment ago, or when there had been so many pauses."""
+    for unit in units:
+        health.failures.failed(unit, health.failures.pauses if pauses is None else pauses, "status 1")
+
+
+def passes(health, seconds):
+    health.clock[0] += seconds
+    health.look()
+
+
+def test_three_failures_in_a_row_pause_a_host(health):
+    for unit in ("a/b", "c/d", "a/b", "c/d"):
+        fail(health, unit)
+        assert not health.is_away() and away_of(health) == ""
+    fail(health, "e/f")
+    assert health.is_away() and away_of(health) == "5 builds in a row failed, the last: e/f, status 1\n"
+    passes(health, 4.9)
+    assert health.is_away()
+    passes(health, 0.2)
+    # all places may begin builds, since what waits here is built nowhere else
+    assert not health.is_away() and away_of(health) == "" and health.most(8) == 8
+    assert health.told == ["~ this host begins nothing for 5 s: 5 builds in a row failed, the last: e/f, status 1",
+                           "~ this host begins builds again, after 5 s"]
+
+
+def test_pauses_double_up_to_a_minute_until_a_build_succeeds(health):
+    fail(health, "a/a", "a/b")
+    waits = []
+    for number in range(7):
+        fail(health, f"b/p{number}")
+        waits.append(health.failures.until - health.clock[0])
+        passes(health, waits[-1])
+        assert not health.is_away()
+    assert waits == [5, 10, 20, 40, 60, 60, 60]
+    health.failures.succeeded()
+    fail(health, "c/d", "e/f")
+    assert not health.is_away()
+    fail(health, "g/h")
+    assert health.failures.until - health.clock[0] == 5 and "3 builds in a row failed" in away_of(health)
+
+
+def test_a_success_between_failures_ends_the_row(health):
+    fail(health, "a/b", "c/d")
+    health.failures.succeeded()
+    fail(health, "e/f", "g/h")
+    assert not health.is_away()
+
+
+def test_builds_that_ran_when_a_pause_began_start_none(health):
+    fail(health, "a/b", "c/d", "e/f")
+    first = health.failures.until
+    fail(health, "g/h", "i/j", "k/l", pauses=0)
+    assert health.failures.until == first
+    passes(health, 5)
+    fail(health, "m/n", "o/p", "q/r", pauses=0)
+    assert not health.is_away()
+    fail(health, "s/t")
+    assert health.is_away() and away_of(health) == "10 builds in a row failed, the last: s/t, status 1\n"
+
+
+def test_a_success_ends_a_pause(health):
+    """As of a build that began before the pause."""
+    fail(health, "a/b", "c/d", "e/f")
+    passes(health, 2)
+    health.failures.succeeded()
+    assert away_of(health) == "" and not health.is_away() and health.told[-1] == "~ this host begins builds again, after 2 s"
+    fail(health, "g/h", pauses=0)
+    fail(health, "i/j", "k/l")
+    assert not health.is_away()
+
+
+@pytest.mark.parametrize("members", [0, 1])
+def test_a_lone_member_never_pauses(health, members):
+    """Nor does one whose log isn't there yet; once it names others, the row counts."""
+    health.members[0] = members
+    fail(health, "a/b", "c/d", "e/f", "g/h")
+    assert not health.is_away()
+    health.members[0] = 2
+    fail(health, "a/b")
+    assert away_of(health) == "5 builds in a row failed, the last: a/b, status 1\n"
+
+
+def test_how_many_failures_are_a_row(tmp_path):
+    told = []
+    never, first = (Failures(most, lambda: 2, told.append) for most in (0, 1))
+    for number in range(50):
+        never.failed(f"a/p{number}", 0, "status 1")
+    assert not never.why and not never.units and not told
+    first.failed("a/b", 0, "it made no a/b\nx")
+    assert told == ["~ this host begins nothing for 5 s: a build failed: a/b, it made no a/b x"]
+
+
+def test_the_file_stays_as_long_as_there_is_a_reason(health):
+    fail(health, "a/b", "c/d", "e/f")
+    failed = "3 builds in a row failed, the last: e/f, status 1"
+    assert away_of(health) == f"{failed}\n"
+    for unit in ("g/h", "i/j", "k/l"):
+        health.unit_failed(unit, "status 75")
+    assert away_of(health) == f"status 75; {failed}\n"
+    health.set_short("3 bytes are free")
+    passes(health, 5)
+    assert away_of(health) == "status 75\n" and health.told[-1] == "~ this host begins nothing still: status 75"
+    passes(health, 56)
+    assert away_of(health) == "3 bytes are free\n" and health.told[-1] == "~ this host begins nothing still: 3 bytes are free"
+    health.set_short("2 bytes are free")
+    assert away_of(health) == "3 bytes are free\n"
+    health.set_short("")
+    assert away_of(health) == ""
+
+
+def test_a_pause_ends_while_an_operator_drains_the_host(health):
+    fail(health, "a/b", "c/d", "e/f")
+    with open(f"{health.work.path}/stop", "w", encoding="ascii"):
+        pass
+    passes(health, 5)
+    assert away_of(health) == "" and health.told[-1] == f"~ this host begins nothing still: {health.work.path}/stop is there"
+
+
+def ends(own, unit, how="exit", number=1, why="", dropped=""):
+    """Has a build of the driver end, which a limit ended or nobody waits for."""
+    build = Build(job(unit), 0)
+    build.pauses, build.failed, build.dropped = own.health.failures.pauses, why, dropped
+    build.ended = builds.Ended(how, number, 1.0, True)
+    own.endings.has_ended(build)
+    return build
+
+
+def test_what_counts_as_a_failure(tmp_path):
+    """What ended with a status, by a limit, or made something else; not what is dropped, was given back, or was built."""
+    own = driver(tmp_path)
+    own.held.look()
+    failures = own.health.failures
+    ends(own, "a/dropped", dropped="another node built it")
+    ends(own, "a/late", why="it took longer than 1 s", dropped="its job was taken away")
+    ends(own, "a/host", number=75)
+    ends(own, "a/killed", how="signal", number=9)
+    ends(own, "a/good", number=0)
+    assert failures.count == 0
+    ends(own, "a/bad")
+    ends(own, "a/long", how="signal", number=15, why="it took longer than 1 s")
+    assert failures.count == 2 and not own.health.is_away()
+    good = ends(own, "a/less", number=0)
+
+    def refuse():
+        raise Failed("it made no a/less")
+
+    own.endings.step(good, refuse, lambda: None)
+    while own.tasks.running:
+        own.tasks.look()
+    assert failures.why == "3 builds in a row failed, the last: a/less, it made no a/less" and not own.may_begin()
+    assert "begins nothing for 5 s" in own.lines.last[-1]
+
+
+def test_what_counts_as_a_success(tmp_path):
+    """What made what was asked for, also before it is handed in; not what an earlier run built, or what is dropped."""
+    own = driver(tmp_path)
+    for is_reused, dropped, count in ((True, "", 1), (False, "another node built it", 1), (False, "", 0)):
+        own.health.failures.count = 1
+        build = Build(job(), 0)
+        build.is_reused, build.dropped = is_reused, dropped
+        own.endings.examined(build)
+        assert own.health.failures.count == count
 
 
 # ---- locks

@@ -8,7 +8,6 @@ use Rattle.protocol.specs.Events.{Event, StopIn, event_view}
 use Rattle.protocol.specs.declared.event.Event as declared
 use Rattle.protocol.specs.declared.event.Left.TheVariants as left
 use Rattle.node.specs.State.{LoggedNode, NodeState}
-use Rattle.datagram_ports.specs.Kept.{Arrived}
 use Rattle.protocol.specs.Given.{Given}
 use Rattle.cluster_turns.specs.Faults.{IsLeftBy, IsTurnFault}
 use Rattle.cluster_turns.specs.State.{ClusterState, IsWorldOf, node_view, taken}
@@ -18,6 +17,7 @@ use Rattle.engine.specs.Division.{Division}
 use Rattle.world.proofs.EventParts.{leads_together}
 use Rattle.world.specs.Happening.{Leads}
 use Rattle.world.specs.World.{IsMade, World, WorldNode, down_node, node_at, start, up_node}
+use Rattle.datagram_ports.specs.declared.port.Port.{Ghosts as Port}
 
 -- ---- nodes, and what they are in a world
 
@@ -111,28 +111,27 @@ module _ {D P : Type 0} (old new : ClusterState D P) (division : new.division �
   answered (Some e) happened kept same = one_happened (event_view e) kept happened
 
   -- if it was refused
-  pub went_on : (given : P → Option (List Arrived)) (builds : Given) (f : TurnFault)
-      → IsTurnFault given old new builds f → IsLeftBy old new f → GoesOn old new
-  went_on given builds refused.Memory why same =
+  pub went_on : (port : Port P) (builds : Given) (f : TurnFault) → IsTurnFault port old new builds f
+      → IsLeftBy old new f → GoesOn old new
+  went_on port builds refused.Memory why same =
       ([], none_happened old new same division weights)
-  went_on given builds (refused.Node f) why same =
+  went_on port builds (refused.Node f) why same =
       ([], none_happened old new same division weights)
-  went_on given builds (refused.Down k) (e, chosen, down) any =
+  went_on port builds (refused.Down k) (e, chosen, down) any =
       (StopIn e left.None ∷ [], one_happened (StopIn e left.None) down.events down.stopped)
-  went_on given builds refused.NotSent why same =
+  went_on port builds refused.NotSent why same =
       ([], none_happened old new same division weights)
-  went_on given builds refused.NotFresh why same = absurd why
+  went_on port builds refused.NotFresh why same = absurd why
 
   -- whatever its result
-  pub any_turn : (given : P → Option (List Arrived)) (builds : Given)
-      (r : Result (Option declared.Event) TurnFault)
+  pub any_turn : (port : Port P) (builds : Given) (r : Result (Option declared.Event) TurnFault)
       → IfOk r (λ o. IfSome o (λ e. HasHappened old new (event_view e)))
       → IfOk r (λ o. IfSome o (λ e. taken new ≡ taken old ++ event_view e ∷ []))
-      → IfOk r (λ o. IfNone o (IsSame old new)) → IfErr r (IsTurnFault given old new builds)
+      → IfOk r (λ o. IfNone o (IsSame old new)) → IfErr r (IsTurnFault port old new builds)
       → IfErr r (IsLeftBy old new) → GoesOn old new
-  any_turn given builds (Ok o) happened kept same why leaves =
+  any_turn port builds (Ok o) happened kept same why leaves =
       (event_in o, answered o happened kept same)
-  any_turn given builds (Err f) happened kept same why leaves = went_on given builds f why leaves
+  any_turn port builds (Err f) happened kept same why leaves = went_on port builds f why leaves
 
 -- ---- one after the other
 

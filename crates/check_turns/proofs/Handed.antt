@@ -2,7 +2,7 @@
 use Rattle.std.proofs.Common.{◌≡◌, ◌==◌, ◌++◌, ◌∙◌, ℕ, true, false, List, [], ◌∷◌, None, Some, Result, Ok, Err, length, if◌then◌else◌, refl, sym, ap, subst, eq-eqb}
 use Rattle.std.proofs.lemmas.Bool.{true≢false}
 use Rattle.std.specs.List.{range_with_len}
-use Rattle.std.specs.Prelude.{⊤, is_some, option_and_then, option_map}
+use Rattle.std.specs.Prelude.{is_some, option_and_then, option_map}
 use Rattle.turn_rules.specs.Acts.{asked_by}
 use Rattle.turn_rules.specs.Answering.{answer_if, answer_of, answer_to}
 use Rattle.turn_rules.specs.Choice.{Chosen, IsFirstDone, IsGivenOr, all_made, comes_to, each_own, first_answer, has_answer, in_turn}
@@ -19,7 +19,6 @@ use Rattle.datagram_ports.proofs.Calls.{WentThrough-append}
 use Rattle.datagram_ports.proofs.Waiting.{left_waiting}
 use Rattle.datagram_ports.specs.Calls.{Received, WentThrough}
 use Rattle.datagram_ports.specs.InMemory.{DoesInMemory, MemPortState, first_of}
-use Rattle.datagram_ports.specs.Granted.{IsGranted}
 use Rattle.datagram_ports.specs.Kept.{Arrived, Parcel}
 use Rattle.datagram_ports.specs.declared.fault.PortFault.{PortFault}
 use Rattle.protocol.specs.Given.{Given}
@@ -30,20 +29,9 @@ use Rattle.lone_node.specs.Handed.{AllBuilds}
 use Rattle.lone_node.specs.State.{SoloState, me_of, member_up, only}
 use Rattle.lone_node.specs.Turn.{IsChosen, received_by}
 use Rattle.lone_node.specs.Turns.{IsTurn, Outcome}
+use Rattle.check_turns.proofs.Waiting.{mem_port}
 use Rattle.check_turns.specs.Handed.{HearsTheFirst, IsAbout, PutsItsSends}
 use Rattle.stable_record.specs.declared.disk.Disk.{Ghosts as Disk}
-use Rattle.datagram_ports.specs.declared.port.Port.{Ghosts as Port}
-
--- what contracts see of a port in memory
-abbrev mem_port : Port MemPortState
-mem_port = record {
-  given = λ port. port.given;
-  offered = λ port. port.offered;
-  failures_of = λ port. port.failures;
-  does = DoesInMemory;
-  vouches = λ port text. ⊤;
-  may_send = λ port text. IsGranted port.granted text;
-}
 
 module _ {D : Type 0} (disk : Disk D) (builds : Given) (old new : SoloState D MemPortState) where
   abbrev Turn : Outcome → Type 0

@@ -24,6 +24,7 @@ use Rattle.cluster_turns.specs.State.{ClusterState, here_of}
 use Rattle.cluster_turns.specs.Turn.{IsChosen, IsEventChosen}
 use Rattle.check_turns.specs.Heard.{GaveJust, HearsIt}
 use Rattle.engine.proofs.Places.{same_bytes}
+use Rattle.datagram_ports.specs.declared.port.Port.{Ghosts as Port}
 
 -- what the port returned was asked for, and there was no job
 looked : (job : Bool) (came c : Arrived) → looked_for job came ≡ c ∷ [] → (job ≡ false) × (came ≡ c)
@@ -44,9 +45,8 @@ no_job : (o : Chosen) → is_some o ≡ false → o ≡ None
 no_job None none = refl
 no_job (Some x) none = absurd (let no : true ≡ false = none in cc)
 
-module _ {D P : Type 0} (given : P → Option (List Arrived)) (old new : ClusterState D P)
-    (builds : Given) (k : ℕ) (text : Text) (s : State)
-    (gave_just : GaveJust given old.port new.port (Some (k, text)))
+module _ {D P : Type 0} (port : Port P) (old new : ClusterState D P) (builds : Given) (k : ℕ)
+    (text : Text) (s : State) (gave_just : GaveJust port old.port new.port (Some (k, text)))
     (sent : is_among old.sent text ≡ true) (up : here_of old k ≡ Some s) where
   abbrev here : Here
   here = here_of old
@@ -54,12 +54,12 @@ module _ {D P : Type 0} (given : P → Option (List Arrived)) (old new : Cluster
   abbrev count : ℕ
   count = length old.weights
 
-  chosen_so : (chosen : Chosen) → IsChosen given old new builds chosen
+  chosen_so : (chosen : Chosen) → IsChosen port old new builds chosen
       → chosen ≡ Some (k, Comes text)
   chosen_so chosen is =
       let told = looked (has_job here count builds) is.came (Some (k, text))
       (gave (looked_for (has_job here count builds) is.came) gave_just.before (Some (k, text))
-      (given old.port) (given new.port) gave_just.first gave_just.last is.looked) in
+      (port.given old.port) (port.given new.port) gave_just.first gave_just.last is.looked) in
       let none : first_job here count builds ≡ None =
       no_job (first_job here count builds) told.0 in
       let its : option_or (first_job here count builds) (comes_to here is.came)
@@ -84,7 +84,7 @@ module _ {D P : Type 0} (given : P → Option (List Arrived)) (old new : Cluster
         sym same,
       )
 
-  its_event : (e : declared.Event) → IsEventChosen given old new builds (event_view e)
+  its_event : (e : declared.Event) → IsEventChosen port old new builds (event_view e)
       → (f : declared.Event) × (Some e ≡ Some f) × (d : ℕ)
       × (slice_get old.sent d ≡ Some text) × (event_view f ≡ Deliver d k)
   its_event e is =
@@ -96,11 +96,11 @@ module _ {D P : Type 0} (given : P → Option (List Arrived)) (old new : Cluster
       let d = delivered (position (bytes_eq text) old.sent) (event_view e) refl told in
       (e, refl, d.0, d.1, d.2)
 
-  not_none : (X : Type 0) → IsChosen given old new builds None → X
+  not_none : (X : Type 0) → IsChosen port old new builds None → X
   not_none X is =
       absurd (let no : ◌≡◌ {A = Chosen} None (Some (k, Comes text)) = chosen_so None is in cc)
 
-  was_sent : (f : TurnFault) → IsTurnFault given old new builds f → f ≡ refused.NotSent → ⊥
+  was_sent : (f : TurnFault) → IsTurnFault port old new builds f → f ≡ refused.NotSent → ⊥
   was_sent refused.Memory why e = let no : refused.Memory ≡ refused.NotSent = e in cc
   was_sent (refused.Node g) why e = let no : refused.Node g ≡ refused.NotSent = e in cc
   was_sent (refused.Down j) why e = let no : refused.Down j ≡ refused.NotSent = e in cc
@@ -115,9 +115,9 @@ module _ {D P : Type 0} (given : P → Option (List Arrived)) (old new : Cluster
 
   -- so the turn receives it
   pub hears : (r : Result (Option declared.Event) TurnFault)
-      → IfOk r (λ o. IfSome o (λ e. IsEventChosen given old new builds (event_view e)))
-      → IfOk r (λ o. IfNone o (IsChosen given old new builds None))
-      → IfErr r (IsTurnFault given old new builds) → HearsIt old k text r
+      → IfOk r (λ o. IfSome o (λ e. IsEventChosen port old new builds (event_view e)))
+      → IfOk r (λ o. IfNone o (IsChosen port old new builds None))
+      → IfErr r (IsTurnFault port old new builds) → HearsIt old k text r
   hears (Ok None) chosen nothing why = not_none (HearsIt old k text (Ok None)) nothing
   hears (Ok (Some e)) chosen nothing why = record {
     sent = λ bad. (let no : ◌≡◌ {A = Result (Option declared.Event) TurnFault} (Ok (Some e)) (Err refused.NotSent) = bad in cc);

@@ -15,7 +15,6 @@ use Rattle.protocol.specs.declared.event.Event as declared
 use Rattle.faults.specs.Answers.{option_or}
 use Rattle.node.specs.State.{LoggedNode, NodeState}
 use Rattle.node.specs.Step.{Does}
-use Rattle.datagram_ports.specs.Kept.{Arrived}
 use Rattle.protocol.specs.Given.{Given}
 use Rattle.protocol.specs.State.{OpenClaim, State}
 use Rattle.protocol.specs.declared.input.Input.{Input}
@@ -25,6 +24,7 @@ use Rattle.check_turns.proofs.Going.{shown_there, state}
 use Rattle.check_turns.specs.Listed.{HasNoClaims}
 use Rattle.world.proofs.Growth.{leads_later}
 use Rattle.world.specs.World.{World, fresh_node, start}
+use Rattle.datagram_ports.specs.declared.port.Port.{Ghosts as Port}
 
 -- ---- whose turn it is
 
@@ -108,9 +108,8 @@ module _ {D P : Type 0} (old new : ClusterState D P) (same : IsSame old new)
   there k s None at up = absurd (let no : ◌≡◌ {A = Option State} None (Some s) = up in cc)
   there k s (Some n) at up = slice_get_within old.nodes k n at
 
-  idle : (given : P → Option (List Arrived)) (builds : Given) → IsChosen given old new builds None
-      → HasNoClaims old
-  idle given builds chosen k s up =
+  idle : (port : Port P) (builds : Given) → IsChosen port old new builds None → HasNoClaims old
+  idle port builds chosen k s up =
       let here = here_of old in
       let count = length old.weights in
       let first : IsFirstOwn here count old.pending (in_turn old.pending.next count) None =
@@ -133,16 +132,16 @@ module _ {D P : Type 0} (old new : ClusterState D P) (same : IsSame old new)
           let m = shown_there state old.nodes new.nodes same.nodes k n at in
           none k s (ap member_up m.1 ∙ ap up_state (sym m.2) ∙ up)
 
-  pub nothing_left : (given : P → Option (List Arrived)) (builds : Given)
-      → IsChosen given old new builds None → HasNoClaims new
-  nothing_left given builds chosen = idle_then (idle given builds chosen)
+  pub nothing_left : (port : Port P) (builds : Given) → IsChosen port old new builds None
+      → HasNoClaims new
+  nothing_left port builds chosen = idle_then (idle port builds chosen)
 
 -- if the turn returned nothing
 pub if_nothing : {D P : Type 0} (old new : ClusterState D P) (weights : new.weights ≡ old.weights)
-    (w : World) → IsWorldOf new w → (given : P → Option (List Arrived)) (builds : Given)
-    → (o : Option declared.Event) → IfNone o (IsChosen given old new builds None)
+    (w : World) → IsWorldOf new w → (port : Port P) (builds : Given)
+    → (o : Option declared.Event) → IfNone o (IsChosen port old new builds None)
     → IfNone o (IsSame old new) → is_some o ≡ false → HasNoClaims new
-if_nothing old new weights w is given builds None chosen same none =
-    nothing_left old new same weights w is given builds chosen
-if_nothing old new weights w is given builds (Some e) chosen same none =
+if_nothing old new weights w is port builds None chosen same none =
+    nothing_left old new same weights w is port builds chosen
+if_nothing old new weights w is port builds (Some e) chosen same none =
     absurd (let no : true ≡ false = none in cc)

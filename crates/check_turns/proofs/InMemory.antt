@@ -9,7 +9,7 @@ use Rattle.protocol.specs.Events.{event_view}
 use Rattle.protocol.specs.declared.event.Event as declared
 use Rattle.faults.specs.Bytes.{Text}
 use Rattle.node.specs.Step.{Comes}
-use Rattle.turn_rules.specs.Calls.{TurnCalls, calls_of, came_by, given_in, no_calls}
+use Rattle.turn_rules.specs.Calls.{TurnCalls, calls_of, came_by, no_calls}
 use Rattle.turn_rules.specs.Offered.{Answered, sends_of}
 use Rattle.datagram_ports.proofs.Waiting.{left_waiting}
 use Rattle.datagram_ports.specs.Calls.{Received, WentThrough}
@@ -18,12 +18,12 @@ use Rattle.datagram_ports.specs.Kept.{Arrived, Parcel}
 use Rattle.datagram_ports.specs.declared.fault.PortFault.{PortFault}
 use Rattle.protocol.specs.Given.{Given}
 use Rattle.cluster_turns.proofs.ByCalls.{world_with}
-use Rattle.cluster_turns.specs.Calls.{HasCalled, IsByCalls, with_calls}
+use Rattle.cluster_turns.specs.Calls.{HasCalled, IsByCalls, calls_as_port, with_calls}
 use Rattle.cluster_turns.specs.Faults.{IsTurnFault}
 use Rattle.cluster_turns.specs.State.{ClusterState}
 use Rattle.cluster_turns.specs.Turn.{IsChosen, IsEventChosen}
 use Rattle.check_turns.proofs.Hearing.{hears}
-use Rattle.check_turns.proofs.Waiting.{after_both, after_receives, after_sends, gave_first, left_one, received_none, received_one, sends_answered}
+use Rattle.check_turns.proofs.Waiting.{after_both, after_receives, after_sends, gave_first, left_one, mem_port, received_none, received_one, sends_answered}
 use Rattle.check_turns.specs.Heard.{GaveJust}
 use Rattle.check_turns.specs.InMemory.{AreItsSends, HearsFirst, IsAnswered, TurnsInMemory, left_by, put_by_all, waits_for_answer}
 
@@ -36,7 +36,7 @@ Outcome = Result (Option declared.Event) TurnFault
 module _ {D : Type 0} (old new : ClusterState D TurnCalls) (builds : Given) where
   -- each result has its choice
   choice_in : (r : Outcome) → IsByCalls old new builds r
-      → (chosen : Chosen) × IsChosen given_in old new builds chosen
+      → (chosen : Chosen) × IsChosen calls_as_port old new builds chosen
   choice_in (Ok None) t = (None, t.0)
   choice_in (Ok (Some e)) t = (Some t.0.chosen, t.0.is_chosen)
   choice_in (Err refused.Memory) t = (Some t.0.0, t.0.1)
@@ -46,19 +46,19 @@ module _ {D : Type 0} (old new : ClusterState D TurnCalls) (builds : Given) wher
   choice_in (Err refused.NotFresh) t = absurd t.0
 
   chosen_in : (r : Outcome) → IsByCalls old new builds r
-      → IfOk r (λ o. IfSome o (λ e. IsEventChosen given_in old new builds (event_view e)))
+      → IfOk r (λ o. IfSome o (λ e. IsEventChosen calls_as_port old new builds (event_view e)))
   chosen_in (Ok None) t = tt
   chosen_in (Ok (Some e)) t = t.0
   chosen_in (Err f) t = tt
 
   nothing_in : (r : Outcome) → IsByCalls old new builds r
-      → IfOk r (λ o. IfNone o (IsChosen given_in old new builds None))
+      → IfOk r (λ o. IfNone o (IsChosen calls_as_port old new builds None))
   nothing_in (Ok None) t = t.0
   nothing_in (Ok (Some e)) t = tt
   nothing_in (Err f) t = tt
 
   fault_in : (r : Outcome) → IsByCalls old new builds r
-      → IfErr r (IsTurnFault given_in old new builds)
+      → IfErr r (IsTurnFault calls_as_port old new builds)
   fault_in (Ok None) t = tt
   fault_in (Ok (Some e)) t = tt
   fault_in (Err f) t = t.0
@@ -72,7 +72,7 @@ none_offered (a ∷ rest) is = absurd (
 -- ---- over a port in memory
 
 module _ {D : Type 0} (old new : ClusterState D MemPortState) (builds : Given) (answer : Outcome)
-    (c : HasCalled DoesInMemory old new builds answer) where
+    (c : HasCalled mem_port old new builds answer) where
   abbrev first : ClusterState D TurnCalls
   first = with_calls old no_calls
 
@@ -139,38 +139,38 @@ module _ {D : Type 0} (old new : ClusterState D MemPortState) (builds : Given) (
       let gave : came_by one.0 ≡ Some (k, text) =
       gave_first old.port new.port one.0 (sends_of c.calls.offered) (k, text)
       (went_so (one.0 ∷ []) one.1) waits listens in
-      let just : GaveJust given_in no_calls c.calls (Some (k, text)) = record {
+      let just : GaveJust calls_as_port no_calls c.calls (Some (k, text)) = record {
         before = [];
         first = refl;
         last = ap (λ (l : List Arrived). Some l)
             (is ∙ ap (λ (a : Arrived). a ∷ []) (sym one.2 ∙ gave));
       } in
-      let h = hears given_in first last builds k text s just sent up answer
+      let h = hears calls_as_port first last builds k text s just sent up answer
       (chosen_in first last builds answer c.by_calls)
       (nothing_in first last builds answer c.by_calls)
       (fault_in first last builds answer c.by_calls) in
       record { sent = h.sent; event = h.event }
 
 module _ {D : Type 0} (old new : ClusterState D MemPortState) (builds : Given) where
-  sends_by : (r : Outcome) (c : HasCalled DoesInMemory old new builds r)
+  sends_by : (r : Outcome) (c : HasCalled mem_port old new builds r)
       → IfOk r (λ o. IfSome o (λ e. AreItsSends old e c.calls.offered))
   sends_by (Ok None) c = tt
   sends_by (Ok (Some e)) c =
       λ w x t is acts. c.by_calls.1 w x t (world_with old no_calls w is) acts
   sends_by (Err f) c = tt
 
-  none_by : (r : Outcome) (c : HasCalled DoesInMemory old new builds r)
+  none_by : (r : Outcome) (c : HasCalled mem_port old new builds r)
       → IfOk r (λ o. IfNone o (c.calls.offered ≡ []))
   none_by (Ok None) c = none_offered c.calls.offered c.by_calls.1
   none_by (Ok (Some e)) c = tt
   none_by (Err f) c = tt
 
-  none_refused_by : (r : Outcome) (c : HasCalled DoesInMemory old new builds r)
+  none_refused_by : (r : Outcome) (c : HasCalled mem_port old new builds r)
       → OnErr r (c.calls.offered ≡ [])
   none_refused_by (Ok o) c = tt
   none_refused_by (Err f) c = none_offered c.calls.offered c.by_calls.1
 
-  pub turns_in_memory : (answer : Outcome) → HasCalled DoesInMemory old new builds answer
+  pub turns_in_memory : (answer : Outcome) → HasCalled mem_port old new builds answer
       → TurnsInMemory old new builds answer
   turns_in_memory answer c = record {
     offered = c.calls.offered;

@@ -12,7 +12,6 @@ use Rattle.listing.specs.Tree.{Tree}
 use Rattle.node.specs.Calls.{IsOpened}
 use Rattle.node.specs.OnLog.{IsOnLog, LeavesOneMoreAtMost, identity, identity_of, texts_of}
 use Rattle.node.specs.State.{LoggedNode, NodeState, with_note}
-use Rattle.datagram_ports.specs.Kept.{Arrived}
 use Rattle.protocol.specs.Given.{Given}
 use Rattle.protocol.specs.State.{Value}
 use Rattle.stable_record.specs.Crash.{AllAlong, Leaves, MayLeave, and_then, at_first}
@@ -30,13 +29,16 @@ use Rattle.wire.specs.Spelling.{note_text}
 use Rattle.world.specs.Happening.{StopsIn}
 use Rattle.world.specs.Laws.{EventsLeadToLaterWorlds}
 use Rattle.world.specs.World.{World, WorldNode, node_at, start}
+use Rattle.stable_record.specs.declared.disk.Disk.{Ghosts as Disk}
+use Rattle.datagram_ports.specs.declared.port.Port.{Ghosts as Port}
 
 -- ---- what a file opens as
 
 -- a crash leaves the notes that are on the log
-on_the_log : {D : Type 0} (history : D → History) (n : LoggedNode D) → IsOnLog history n
-    → Leaves (HasNotes (identity_of n.node.member) (texts_of n.node.notes)) (history n.log.disk)
-on_the_log history n on c may =
+on_the_log : {D : Type 0} (disk : Disk D) (n : LoggedNode D) → IsOnLog disk.history n
+    → Leaves (HasNotes (identity_of n.node.member) (texts_of n.node.notes))
+    (disk.history n.log.disk)
+on_the_log disk n on c may =
     let settled = on.holds.settled in
     subst (λ (i : Identity). HasNotes i (texts_of n.node.notes) c) on.owner (record {
       gate = settled.gate;
@@ -66,43 +68,43 @@ opened_with tree weights me own file ts m mine has one opened opens =
     cc
 
 -- a crash leaves the notes from before, or these and that of the step
-left_by : {D : Type 0} (history : D → History) (before after : LoggedNode D)
-    (note : Option (Note Value)) → IsOnLog history before
-    → LeavesOneMoreAtMost before.node note (history before.log.disk) (history after.log.disk)
-    → (file : Text) → MayLeave (history after.log.disk) file
+left_by : {D : Type 0} (disk : Disk D) (before after : LoggedNode D)
+    (note : Option (Note Value)) → IsOnLog disk.history before
+    → LeavesOneMoreAtMost before.node note (disk.history before.log.disk)
+    (disk.history after.log.disk)
+    → (file : Text) → MayLeave (disk.history after.log.disk) file
     → HasNotes (identity_of before.node.member) (texts_of before.node.notes) file
     ⊎ HasNotes (identity_of before.node.member) (texts_of (with_note before.node.notes note)) file
-left_by history before after None on same file may =
-    inl (on_the_log history before on file (subst (λ (h : History). MayLeave h file) same may))
-left_by history before after (Some note) on along file may =
+left_by disk before after None on same file may =
+    inl (on_the_log disk before on file (subst (λ (h : History). MayLeave h file) same may))
+left_by disk before after (Some note) on along file may =
     let i = identity_of before.node.member in
     let ts = texts_of before.node.notes in
     ⊎_elim (λ has. inl has)
     (λ has. inr (subst (λ (l : List Text). HasNotes i l file)
     (sym (map-append note_text before.node.notes (note ∷ []))) has))
-    (at_last (HasBeforeOrAfter i ts (note_text note)) (history before.log.disk)
-    (history after.log.disk) along file may)
+    (at_last (HasBeforeOrAfter i ts (note_text note)) (disk.history before.log.disk)
+    (disk.history after.log.disk) along file may)
 
 -- ---- of a cluster
 
 -- the node of this number is the one that went down
-pub fell : {D P : Type 0} (given : P → Option (List Arrived)) (is_kept : D → Type 0)
-    (history : D → History) (old new : ClusterState D P) (builds : Given) (f : TurnFault)
-    (k me : ℕ) → f ≡ refused.Down k → k ≡ me → IsTurnFault given old new builds f
+pub fell : {D P : Type 0} (port : Port P) (disk : Disk D) (old new : ClusterState D P)
+    (builds : Given) (f : TurnFault) (k me : ℕ) → f ≡ refused.Down k → k ≡ me
+    → IsTurnFault port old new builds f
     → ((e : Event) (j : ℕ) → f ≡ refused.Down j → taken new ≡ taken old ++ StopIn e left.None ∷ []
-    → LeavesItsNotes is_kept history old new e j)
-    → (e : Event) × WentDown old new e me × LeavesItsNotes is_kept history old new e me
-fell given is_kept history old new builds f k me is same why leaves =
+    → LeavesItsNotes disk old new e j)
+    → (e : Event) × WentDown old new e me × LeavesItsNotes disk old new e me
+fell port disk old new builds f k me is same why leaves =
     let down : f ≡ refused.Down me = is ∙ ap (λ (j : ℕ). refused.Down j) same in
-    let cause : IsTurnFault given old new builds (refused.Down me) =
-    subst (λ (x : TurnFault). IsTurnFault given old new builds x) down why in
+    let cause : IsTurnFault port old new builds (refused.Down me) =
+    subst (λ (x : TurnFault). IsTurnFault port old new builds x) down why in
     (cause.0, cause.2, leaves cause.0 me down cause.2.events)
 
-module _ {D P : Type 0} (is_kept : D → Type 0) (history : D → History)
-    (old new : ClusterState D P) (e : Event) (k : ℕ) (down : WentDown old new e k)
-    (leaves : LeavesItsNotes is_kept history old new e k) (later : EventsLeadToLaterWorlds)
-    (on_logs : AreOnLogs is_kept history old) (w : World) (is : IsWorldOf old w)
-    (file : Text) (gone : IsLeftOf is_kept history old new k file) where
+module _ {D P : Type 0} (disk : Disk D) (old new : ClusterState D P) (e : Event) (k : ℕ)
+    (down : WentDown old new e k) (leaves : LeavesItsNotes disk old new e k)
+    (later : EventsLeadToLaterWorlds) (on_logs : AreOnLogs disk old) (w : World)
+    (is : IsWorldOf old w) (file : Text) (gone : IsLeftOf disk old new k file) where
   abbrev before : LoggedNode D
   before = gone.before
 
@@ -135,7 +137,7 @@ module _ {D P : Type 0} (is_kept : D → Type 0) (history : D → History)
       ∙ ap (λ (ws : List ℕ). identity old.division.tree ws k) (l.weights ∙ weigh)
       ∙ ap (λ (t : Tree). identity t weights k) over
 
-  on_log : IsOnLog history before
+  on_log : IsOnLog disk.history before
   on_log = on_logs k before gone.stood was_up gone.kept_before
 
   -- so the opened node has those notes
@@ -164,5 +166,5 @@ module _ {D P : Type 0} (is_kept : D → Type 0) (history : D → History)
             (λ has. inr (opened_with tree weights k i file
             (texts_of (with_note before.node.notes t.answer.note)) m mine has one opened opens
             ∙ ap (λ (ns : List (Note Value)). texts_of (with_note ns t.answer.note)) (sym same)))
-            (left_by history before gone.after t.answer.note on_log most file gone.may);
+            (left_by disk before gone.after t.answer.note on_log most file gone.may);
       }

@@ -1,15 +1,28 @@
 -- What calls of a port in memory leave in its queue, and what its receives returned.
 use Rattle.std.proofs.Common.{◌≡◌, ◌∙◌, ◌++◌, ℕ, Bool, true, false, List, [], ◌∷◌, Option, None, Some, Result, Ok, Err, append-nil, append_assoc, ap, drop, map, refl, subst, sym}
 use Rattle.std.proofs.lemmas.List.Elements.{All-cons, All-nil}
-use Rattle.std.specs.Prelude.{All}
+use Rattle.std.specs.Prelude.{⊤, All}
 use Rattle.faults.specs.Bytes.{Text}
 use Rattle.turn_rules.specs.Calls.{came_by}
 use Rattle.turn_rules.specs.Offered.{Answered, sends_of}
 use Rattle.datagram_ports.specs.Calls.{Call, Received, Sent, WentThrough}
+use Rattle.datagram_ports.specs.Granted.{IsGranted}
 use Rattle.datagram_ports.specs.InMemory.{DoesInMemory, MemPortState, Orders, first_of, put_by, waiting_after}
 use Rattle.datagram_ports.specs.Kept.{Arrived}
 use Rattle.datagram_ports.specs.declared.fault.PortFault.{PortFault}
+use Rattle.datagram_ports.specs.declared.port.Port.{Ghosts as Port}
 use Rattle.check_turns.specs.InMemory.{IsAnswered, left_by, put_by_all}
+
+-- what contracts see of a port in memory
+abbrev pub mem_port : Port MemPortState
+mem_port = record {
+  given = λ port. port.given;
+  offered = λ port. port.offered;
+  failures_of = λ port. port.failures;
+  does = DoesInMemory;
+  vouches = λ port text. ⊤;
+  may_send = λ port text. IsGranted port.granted text;
+}
 
 -- ---- the queue
 

@@ -9,6 +9,7 @@ use Rattle.cluster_turns.specs.Faults.{IsTurnFault}
 use Rattle.cluster_turns.specs.State.{ClusterState, IsWorldOf, taken}
 use Rattle.world.specs.Happening.{Leads}
 use Rattle.world.specs.World.{World}
+use Rattle.datagram_ports.specs.declared.port.Port.{Ghosts as Port}
 
 -- the event that a turn returned, if it did
 abbrev pub event_in : Option declared.Event → List Event
@@ -35,14 +36,14 @@ abbrev pub GoesOn : {D P : Type 0} → ClusterState D P → ClusterState D P →
 GoesOn old new = (events : List Event) × GoesOnWith old new events
 
 -- The port was asked at most `count` times, as far as it records its receives.
-abbrev pub WasAskedAtMost : {P : Type 0} → ℕ → (P → Option (List Arrived)) → P → P → Type 0
-WasAskedAtMost count given old new =
-    (came : List Arrived) × (length came ≤ count) × GoesOnBy came (given old) (given new)
+abbrev pub WasAskedAtMost : {P : Type 0} → ℕ → Port P → P → P → Type 0
+WasAskedAtMost count port old new =
+    (came : List Arrived) × (length came ≤ count) × GoesOnBy came (port.given old) (port.given new)
 
 -- The first of two turns is refused; or it took its course, and the second is refused.
-abbrev pub IsRefusedInTwo : {D P : Type 0} → (P → Option (List Arrived)) → ClusterState D P
-    → ClusterState D P → Given → Given → TurnFault → Type 0
-IsRefusedInTwo {D} {P} given old new first second f =
-    IsTurnFault given old new first f
+abbrev pub IsRefusedInTwo : {D P : Type 0} → Port P → ClusterState D P → ClusterState D P → Given
+    → Given → TurnFault → Type 0
+IsRefusedInTwo {D} {P} port old new first second f =
+    IsTurnFault port old new first f
     ⊎ ((between : ClusterState D P) × (answer : Option declared.Event)
-    × GoesOnWith old between (event_in answer) × IsTurnFault given between new second f)
+    × GoesOnWith old between (event_in answer) × IsTurnFault port between new second f)

@@ -6,23 +6,23 @@ use Rattle.node.specs.OnLog.{texts_of}
 use Rattle.node.specs.State.{LoggedNode, NodeState, with_note}
 use Rattle.node.specs.Step.{Taken}
 use Rattle.stable_record.specs.Crash.{MayLeave}
-use Rattle.stable_record.specs.History.{History}
 use Rattle.cluster_turns.specs.State.{ClusterState, IsWorldOf}
 use Rattle.cluster_turns.specs.Turn.{WentDown}
 use Rattle.world.specs.Happening.{Acts}
 use Rattle.world.specs.World.{World, WorldNode}
+use Rattle.stable_record.specs.declared.disk.Disk.{Ghosts as Disk}
 
 -- A crash after the turn may leave this file of node k's disk, which keeps to the disk model then,
 -- and did so before.
-pub record IsLeftOf {D P : Type 0} (is_kept : D → Type 0) (history : D → History)
-    (old new : ClusterState D P) (k : ℕ) (file : Text) : Type 0 where
+pub record IsLeftOf {D P : Type 0} (disk : Disk D) (old new : ClusterState D P) (k : ℕ)
+    (file : Text) : Type 0 where
   pub before : LoggedNode D
   pub stood : slice_get old.nodes k ≡ Some before
-  pub kept_before : is_kept before.log.disk
+  pub kept_before : disk.is_kept before.log.disk
   pub after : LoggedNode D
   pub stands : slice_get new.nodes k ≡ Some after
-  pub kept : is_kept after.log.disk
-  pub may : MayLeave (history after.log.disk) file
+  pub kept : disk.is_kept after.log.disk
+  pub may : MayLeave (disk.history after.log.disk) file
 
 -- Node k went down during an event, and the opened node has the notes that it had before, or these
 -- and that of the event's step.

@@ -26,7 +26,7 @@ pub fn hear_next<D: Disk, P: Port>(
     second: &Packages,
 ) -> Result<Option<Heard>, TurnFault>
     ensures heard { IfOk result (λ o. IfSome o
-        (λ h. HearsNext P.given cluster.old cluster.new h.event h.next)) }
+        (λ h. HearsNext P.Port cluster.old cluster.new h.event h.next)) }
     ensures idle { IfOk result (λ o. IfNone o (HasNoClaims cluster.new)) }
 {
     match cluster.turn(first)? {

@@ -30,9 +30,9 @@ pub fn turn_then_reopen<'a, D: Disk, P: Port, E: Disk>(
     requires me { me < length weights.now }
     requires tree { cluster.old.division.tree ≡ tree.now }
     requires weights { cluster.old.weights ≡ weights.now }
-    requires on_logs { AreOnLogs D.is_kept D.history cluster.old }
+    requires on_logs { AreOnLogs D.Disk cluster.old }
     ensures { IfSome result (λ n. E.is_kept n.log.disk
-        → IsLeftOf D.is_kept D.history cluster.old cluster.new me (seen (E.history left))
+        → IsLeftOf D.Disk cluster.old cluster.new me (seen (E.history left))
         → HasNotesAcross cluster.old cluster.new me n.node) }
 {
     events_lead_to_later_worlds();

@@ -29,8 +29,7 @@ pub fn run_until_nothing<'a, D: Disk, P: Port>(
     requires { length disks.items ≡ length weights.now }
     ensures led { IfOk result (λ events.
         LeadToOneList tree.entry.now weights.now (map event_view events.items)) }
-    ensures refused { IfErr result (IsNewFault D.is_kept D.history D.failures_of
-        tree.entry.now weights.now disks.items) }
+    ensures refused { IfErr result (IsNewFault D.Disk tree.entry.now weights.now disks.items) }
 {
     let mut cluster = Cluster::new(alloc, tree, weights, disks, port)?;
     let _ended = take_turns(&mut cluster, builds, most);
@@ -48,7 +47,7 @@ pub fn take_turns<D: Disk, P: Port>(
     most: u32,
 ) -> bool
     ensures goes_on { GoesOn cluster.old cluster.new }
-    ensures asked { WasAskedAtMost most P.given cluster.old.port cluster.new.port }
+    ensures asked { WasAskedAtMost most P.Port cluster.old.port cluster.new.port }
     ensures ended { result ≡ true → HasNoClaims cluster.new }
 {
     for turn in 0..most {
@@ -62,7 +61,7 @@ pub fn take_turns<D: Disk, P: Port>(
 /// Takes a turn, and returns whether it had nothing to do.
 fn has_nothing<D: Disk, P: Port>(cluster: &mut Cluster<'_, D, P>, builds: &Packages) -> bool
     ensures goes_on { GoesOn cluster.old cluster.new }
-    ensures asked { WasAskedAtMost 1 P.given cluster.old.port cluster.new.port }
+    ensures asked { WasAskedAtMost 1 P.Port cluster.old.port cluster.new.port }
     ensures ended { result ≡ true → HasNoClaims cluster.new }
 {
     match cluster.turn(builds) {

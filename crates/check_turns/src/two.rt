@@ -21,9 +21,9 @@ pub fn two_turns<D: Disk, P: Port>(
     ensures goes_on { IfOk result
         (λ r. GoesOnWith cluster.old cluster.new (event_in r.0 ++ event_in r.1)) }
     ensures idle { IfOk result (λ r. r.1 ≡ None → HasNoClaims cluster.new) }
-    ensures asked { WasAskedAtMost 2 P.given cluster.old.port cluster.new.port }
+    ensures asked { WasAskedAtMost 2 P.Port cluster.old.port cluster.new.port }
     ensures refused { IfErr result
-        (IsRefusedInTwo P.given cluster.old cluster.new first.now second.now) }
+        (IsRefusedInTwo P.Port cluster.old cluster.new first.now second.now) }
 {
     let one = cluster.turn(first)?;
     let other = cluster.turn(second)?;

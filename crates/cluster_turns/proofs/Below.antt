@@ -13,28 +13,28 @@ use Rattle.node.specs.declared.fault.NodeFault.TheVariants as fault
 use Rattle.turn_rules.proofs.FailedBelow.{kept_below}
 use Rattle.turn_rules.specs.Unfailed.{AllFailedBelow}
 use Rattle.protocol.specs.State.{State}
-use Rattle.stable_record.specs.History.{History}
 use Rattle.stable_record.specs.declared.log_fault.LogFault.TheVariants as log
 use Rattle.cluster_turns.proofs.Still.{at_place, off_place}
 use Rattle.cluster_turns.specs.inside.Turning.{HasNotTaken}
+use Rattle.stable_record.specs.declared.disk.Disk.{Ghosts as Disk}
 
 -- if a step was not taken, the member is unchanged
-pub member_stays : {D : Type 0} (is_kept : D → Type 0) (history : D → History) (failures : D → ℕ)
+pub member_stays : {D : Type 0} (disk : Disk D)
     (old new : LoggedNode D) (ready : ReadyStep) (f : NodeFault)
-    → HasNotTaken is_kept history failures old new ready f → new.node.member ≡ old.node.member
-member_stays is_kept history failures old new ready fault.Memory t =
+    → HasNotTaken disk old new ready f → new.node.member ≡ old.node.member
+member_stays disk old new ready fault.Memory t =
     ap (λ (x : NodeState). x.member) t.state
-member_stays is_kept history failures old new ready (fault.Refused r) t = absurd t
-member_stays is_kept history failures old new ready (fault.Log log.Full) t =
+member_stays disk old new ready (fault.Refused r) t = absurd t
+member_stays disk old new ready (fault.Log log.Full) t =
     ap (λ (x : NodeState). x.member) t.1.state
-member_stays is_kept history failures old new ready (fault.Log log.Device) t =
+member_stays disk old new ready (fault.Log log.Device) t =
     ap (λ (x : NodeState). x.member) t.state
-member_stays is_kept history failures old new ready (fault.Log log.Memory) t = absurd t
-member_stays is_kept history failures old new ready (fault.Log log.MustReopen) t = absurd t
-member_stays is_kept history failures old new ready (fault.Log log.NotALog) t = absurd t
-member_stays is_kept history failures old new ready (fault.Log log.OtherCluster) t = absurd t
-member_stays is_kept history failures old new ready fault.Stopped t = absurd t
-member_stays is_kept history failures old new ready (fault.Foreign g) t = absurd t
+member_stays disk old new ready (fault.Log log.Memory) t = absurd t
+member_stays disk old new ready (fault.Log log.MustReopen) t = absurd t
+member_stays disk old new ready (fault.Log log.NotALog) t = absurd t
+member_stays disk old new ready (fault.Log log.OtherCluster) t = absurd t
+member_stays disk old new ready fault.Stopped t = absurd t
+member_stays disk old new ready (fault.Foreign g) t = absurd t
 
 module _ {D : Type 0} (nodes : List (LoggedNode D)) (p : Pending) (unfailed : List ℕ)
     (each : EachFailedBelow nodes p unfailed) (k : ℕ) (n : LoggedNode D)

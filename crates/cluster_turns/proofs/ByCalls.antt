@@ -3,17 +3,18 @@ use Rattle.std.proofs.Common.{◌≡◌, ℕ, List, [], ◌++◌, Option, None, 
 use Rattle.turn_rules.specs.declared.fault.TurnFault.{TurnFault}
 use Rattle.protocol.specs.Given.{Given}
 use Rattle.protocol.specs.declared.event.Event as declared
-use Rattle.turn_rules.specs.Calls.{TurnCalls, given_in, no_calls, offered_in}
+use Rattle.turn_rules.specs.Calls.{TurnCalls, no_calls}
 use Rattle.datagram_ports.proofs.Calls.{WentThrough-append}
 use Rattle.datagram_ports.specs.Calls.{Call, Received, WentThrough}
 use Rattle.datagram_ports.specs.Kept.{Arrived}
 use Rattle.datagram_ports.specs.declared.fault.PortFault.{PortFault}
-use Rattle.stable_record.specs.History.{History}
 use Rattle.cluster_turns.proofs.Turns.{Promises, promises}
-use Rattle.cluster_turns.specs.Calls.{HasCalled, IsByCalls, with_calls}
+use Rattle.cluster_turns.specs.Calls.{HasCalled, IsByCalls, calls_as_port, with_calls}
 use Rattle.cluster_turns.specs.State.{AreOnLogs, ClusterState, IsWorldOf}
 use Rattle.cluster_turns.specs.inside.Turning.{IsTurn, IsTurnByCalls, turning_of}
 use Rattle.world.specs.World.{World}
+use Rattle.stable_record.specs.declared.disk.Disk.{Ghosts as Disk}
+use Rattle.datagram_ports.specs.declared.port.Port.{Ghosts as Port}
 
 -- receives only are the calls of a turn that sent nothing
 pub receives_alone : {P : Type 0} (does : P → Call → P → Type 0) (old new : P)
@@ -34,11 +35,10 @@ world_with c calls w is = record {
   know = is.know;
 }
 
-module _ {D P : Type 0} (is_kept : D → Type 0) (history : D → History) (failures : D → ℕ)
-    (old new : ClusterState D P) (builds : Given) (division : new.division ≡ old.division)
-    (weights : new.weights ≡ old.weights) (count : length old.nodes ≡ length old.weights)
-    (w : World) (is : IsWorldOf old w) (on_logs : AreOnLogs is_kept history old)
-    (calls : TurnCalls) where
+module _ {D P : Type 0} (disk : Disk D) (old new : ClusterState D P) (builds : Given)
+    (division : new.division ≡ old.division) (weights : new.weights ≡ old.weights)
+    (count : length old.nodes ≡ length old.weights) (w : World) (is : IsWorldOf old w)
+    (on_logs : AreOnLogs disk old) (calls : TurnCalls) where
   abbrev first : ClusterState D TurnCalls
   first = with_calls old no_calls
 
@@ -47,15 +47,14 @@ module _ {D P : Type 0} (is_kept : D → Type 0) (history : D → History) (fail
 
   abbrev IsTurnThere : Result (Option declared.Event) TurnFault → Type 0
   IsTurnThere result =
-      IsTurn is_kept history failures given_in offered_in (turning_of first) (turning_of last)
-      builds result
+      IsTurn disk calls_as_port (turning_of first) (turning_of last) builds result
 
   -- what it promises, seen by its calls
   there : (result : Result (Option declared.Event) TurnFault) → IsTurnThere result
-      → Promises is_kept history failures given_in offered_in first last builds result
+      → Promises disk calls_as_port first last builds result
   there result t =
-      promises is_kept history failures given_in offered_in first last builds division weights
-      count w (world_with old no_calls w is) on_logs result t
+      promises disk calls_as_port first last builds division weights count w
+      (world_with old no_calls w is) on_logs result t
 
   pub seen_by : (result : Result (Option declared.Event) TurnFault) → IsTurnThere result
       → IsByCalls first last builds result
@@ -64,17 +63,15 @@ module _ {D P : Type 0} (is_kept : D → Type 0) (history : D → History) (fail
   seen_by (Err f) t = let p = there (Err f) t in (p.faults, p.offers)
 
 -- these are the turn's calls
-pub has_called : {D P : Type 0} (is_kept : D → Type 0) (history : D → History) (failures : D → ℕ)
-    (does : P → Call → P → Type 0) (old new : ClusterState D P) (builds : Given)
+pub has_called : {D P : Type 0} (disk : Disk D) (port : Port P) (old new : ClusterState D P)
+    (builds : Given)
     → new.division ≡ old.division → new.weights ≡ old.weights
     → length old.nodes ≡ length old.weights → (w : World) → IsWorldOf old w
-    → AreOnLogs is_kept history old → (result : Result (Option declared.Event) TurnFault)
-    → IsTurnByCalls is_kept history failures does (turning_of old) (turning_of new) builds result
-    → HasCalled does old new builds result
-has_called is_kept history failures does old new builds division weights count w is on_logs result
-    t = record {
-      calls = t.calls;
-      went = t.went;
-      by_calls = seen_by is_kept history failures old new builds division weights count w is on_logs
-          t.calls result t.so;
-    }
+    → AreOnLogs disk old → (result : Result (Option declared.Event) TurnFault)
+    → IsTurnByCalls disk port (turning_of old) (turning_of new) builds result
+    → HasCalled port old new builds result
+has_called disk port old new builds division weights count w is on_logs result t = record {
+  calls = t.calls;
+  went = t.went;
+  by_calls = seen_by disk old new builds division weights count w is on_logs t.calls result t.so;
+}

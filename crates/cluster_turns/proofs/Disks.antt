@@ -13,7 +13,7 @@ use Rattle.node.specs.declared.fault.NodeFault.{NodeFault}
 use Rattle.node.specs.declared.fault.NodeFault.TheVariants as fault
 use Rattle.stable_record.specs.Crash.{AllAlong}
 use Rattle.stable_record.specs.Faults.{HasRisen}
-use Rattle.stable_record.specs.History.{History, seen}
+use Rattle.stable_record.specs.History.{seen}
 use Rattle.stable_record.specs.Log.{gate_place}
 use Rattle.stable_record.specs.Opening.{Opens, OpensAsLeft}
 use Rattle.stable_record.specs.declared.identity.Identity.{Identity}
@@ -21,22 +21,23 @@ use Rattle.stable_record.specs.declared.log_fault.LogFault.TheVariants as log
 use Rattle.cluster_turns.proofs.Openings.{has_some, is_empty, whose_is}
 use Rattle.cluster_turns.specs.Starting.{IsNewFault, IsOpenedFresh, IsOpeningFault, StandsFresh}
 use Rattle.cluster_turns.specs.inside.Opening.{AreFresh, IsFresh}
+use Rattle.stable_record.specs.declared.disk.Disk.{Ghosts as Disk}
 
 -- ---- one disk
 
-module _ {D : Type 0} (is_kept : D → Type 0) (history : D → History) (failures : D → ℕ)
-    (tree : Tree) (weights : List ℕ) (me : ℕ) (disk : D) where
+module _ {D : Type 0} (disk : Disk D) (tree : Tree) (weights : List ℕ) (me : ℕ) (passed : D) where
   module _ (n : LoggedNode D) (opened : IsOpened tree weights me n.node)
-      (notes : is_kept n.log.disk → Opens (identity_of n.node.member) (seen (history disk))
-      (Ok (texts_of n.node.notes)))
+      (notes : disk.is_kept n.log.disk
+      → Opens (identity_of n.node.member) (seen (disk.history passed)) (Ok (texts_of n.node.notes)))
       (logged : IsLogged n) (len fresh : ℕ) (is : len ≡ n.log.end + 1)
       (at : fresh ≡ gate_place (identity tree weights me) [] + 1) where
     -- the node is fresh if its log is as long as one without notes
-    pub fresh_of : (is_kept n.log.disk → IsOnLog history n)
-        → (is_kept n.log.disk → AllAlong (OpensAsLeft (identity_of n.node.member) (history disk))
-        (history disk) (history n.log.disk))
-        → (is_kept n.log.disk → is_kept disk) → len ≡ fresh
-        → IsFresh is_kept history tree weights me disk n
+    pub fresh_of : (disk.is_kept n.log.disk → IsOnLog disk.history n)
+        → (disk.is_kept n.log.disk
+        → AllAlong (OpensAsLeft (identity_of n.node.member) (disk.history passed))
+        (disk.history passed) (disk.history n.log.disk))
+        → (disk.is_kept n.log.disk → disk.is_kept passed) → len ≡ fresh
+        → IsFresh disk tree weights me passed n
     fresh_of on_log any_moment kept same =
         let none = is_empty tree weights me n opened logged len fresh is at same in
         record {
@@ -45,31 +46,31 @@ module _ {D : Type 0} (is_kept : D → Type 0) (history : D → History) (failur
           on_log = on_log;
           stands = record {
             kept = kept;
-            fresh = λ k. subst (λ ns. Opens (identity_of n.node.member) (seen (history disk))
+            fresh = λ k. subst (λ ns. Opens (identity_of n.node.member) (seen (disk.history passed))
                 (Ok (texts_of ns))) none (notes k);
             any_moment = any_moment;
           };
         }
 
     -- otherwise its file has notes
-    pub not_fresh_of : len ≢ fresh
-        → IsOpeningFault is_kept history failures tree weights me disk refused.NotFresh
+    pub not_fresh_of : len ≢ fresh → IsOpeningFault disk tree weights me passed refused.NotFresh
     not_fresh_of other =
         let some = has_some tree weights me n opened logged len fresh is at other in (
           n.log.disk,
           some.0,
           some.1,
-          λ k. subst (λ (i : Identity). Opens i (seen (history disk)) (Ok (some.0 ∷ some.1)))
+          λ k. subst (λ (i : Identity). Opens i (seen (disk.history passed)) (Ok (some.0 ∷ some.1)))
               (whose_is tree weights me n opened)
-              (subst (λ ts. Opens (identity_of n.node.member) (seen (history disk)) (Ok ts)) some.2
+              (subst (λ ts. Opens (identity_of n.node.member) (seen (disk.history passed)) (Ok ts))
+              some.2
               (notes k)),
         )
 
   -- a refusal is reported with its cause
   pub told_of : (after : D) (f : NodeFault)
-      → (is_kept after → IsOpenFault tree weights me (seen (history disk)) f)
-      → (f ≡ fault.Log log.Device → HasRisen (failures disk) (failures after))
-      → IsOpeningFault is_kept history failures tree weights me disk (told f)
+      → (disk.is_kept after → IsOpenFault tree weights me (seen (disk.history passed)) f)
+      → (f ≡ fault.Log log.Device → HasRisen (disk.failures_of passed) (disk.failures_of after))
+      → IsOpeningFault disk tree weights me passed (told f)
   told_of after fault.Memory cause device = tt
   told_of after (fault.Refused r) cause device =
       (after, (λ e. let no : fault.Refused r ≡ fault.Memory = e in cc), cause, device)
@@ -103,62 +104,59 @@ zipped {Y = Y} R (x ∷ xs) (y ∷ ys) same each =
     let one : y ≡ first.0 = cc in
     (subst (R x) (sym one) first.2, zipped R xs ys (omega (arith, same)) (λ k. each (suc k)))
 
-module _ {D : Type 0} (is_kept : D → Type 0) (history : D → History) (failures : D → ℕ)
-    (tree : Tree) (weights : List ℕ) (disks : List D) where
+module _ {D : Type 0} (disk : Disk D) (tree : Tree) (weights : List ℕ) (disks : List D) where
   -- no node yet
-  pub none_yet : AreFresh is_kept history tree weights disks []
+  pub none_yet : AreFresh disk tree weights disks []
   none_yet = record { each = λ k n at. absurd (let no : None ≡ Some n = at in cc) }
 
-  module _ (nodes : List (LoggedNode D))
-      (are : AreFresh is_kept history tree weights disks nodes) where
+  module _ (nodes : List (LoggedNode D)) (are : AreFresh disk tree weights disks nodes) where
     -- one more node
-    pub one_more : (me : ℕ) → me ≡ length nodes → (disk : D) → slice_get disks me ≡ Some disk
-        → (n : LoggedNode D) → IsFresh is_kept history tree weights me disk n
-        → (now : List (LoggedNode D)) → now ≡ nodes ++ n ∷ []
-        → AreFresh is_kept history tree weights disks now
-    one_more me count disk stands n fresh now is = record {
+    pub one_more : (me : ℕ) → me ≡ length nodes → (passed : D) → slice_get disks me ≡ Some passed
+        → (n : LoggedNode D) → IsFresh disk tree weights me passed n → (now : List (LoggedNode D))
+        → now ≡ nodes ++ n ∷ [] → AreFresh disk tree weights disks now
+    one_more me count passed stands n fresh now is = record {
       each = λ k m at. ⊎_elim (λ old. are.each k m old)
           (λ new. (
-            disk,
+            passed,
             ap (slice_get disks) (new.0 ∙ sym count) ∙ stands,
-            subst (λ y. IsFresh is_kept history tree weights k disk y) new.1
-                (subst (λ j. IsFresh is_kept history tree weights j disk n) (count ∙ sym new.0) fresh),
+            subst (λ y. IsFresh disk tree weights k passed y) new.1
+                (subst (λ j. IsFresh disk tree weights j passed n) (count ∙ sym new.0) fresh),
           ))
           (one_node nodes n m k (ap (λ l. slice_get l k) (sym is) ∙ at));
     }
 
     -- nodes were opened over the first disks
-    pub opened_before : (j : ℕ) (disk : D) → j < length nodes → slice_get disks j ≡ Some disk
-        → IsOpenedFresh is_kept history tree weights j disk
-    opened_before j disk within stands = ⊎_elim by
+    pub opened_before : (j : ℕ) (passed : D) → j < length nodes → slice_get disks j ≡ Some passed
+        → IsOpenedFresh disk tree weights j passed
+    opened_before j passed within stands = ⊎_elim by
         (λ past. absurd (omega (arith, within, past.0)))
         (slice_get_cases nodes j).1
       where
         by : ((n : LoggedNode D) × (j < length nodes) × (slice_get nodes j ≡ Some n)
-            × (get_or nodes j n ≡ n)) → IsOpenedFresh is_kept history tree weights j disk
+            × (get_or nodes j n ≡ n)) → IsOpenedFresh disk tree weights j passed
         by (n, inside, at, read) =
             let own = are.each j n at in
-            let known : ◌≡◌ {A = Option D} (Some own.0) (Some disk) = sym own.1 ∙ stands in
-            let one : own.0 ≡ disk = cc in
+            let known : ◌≡◌ {A = Option D} (Some own.0) (Some passed) = sym own.1 ∙ stands in
+            let one : own.0 ≡ passed = cc in
             record {
               node = n;
               opened = own.2.opened;
-              stands = subst (StandsFresh is_kept history n) one own.2.stands;
+              stands = subst (StandsFresh disk n) one own.2.stands;
             }
 
     -- and the next disk is the first that fails
-    pub fails_at : (me : ℕ) → me ≡ length nodes → (disk : D) → slice_get disks me ≡ Some disk
-        → (f : TurnFault) → IsOpeningFault is_kept history failures tree weights me disk f
-        → IsNewFault is_kept history failures tree weights disks f
-    fails_at me count disk stands f why = inr (record {
+    pub fails_at : (me : ℕ) → me ≡ length nodes → (passed : D) → slice_get disks me ≡ Some passed
+        → (f : TurnFault) → IsOpeningFault disk tree weights me passed f
+        → IsNewFault disk tree weights disks f
+    fails_at me count passed stands f why = inr (record {
       place = me;
-      disk = disk;
+      passed = passed;
       stands = stands;
       before = λ j d within at. opened_before j d (omega (arith, within, count)) at;
       refused = why;
     })
 
     -- a node over each
-    pub all_stand : length nodes ≡ length disks → AllZip (StandsFresh is_kept history) nodes disks
-    all_stand count = zipped (StandsFresh is_kept history) nodes disks count
+    pub all_stand : length nodes ≡ length disks → AllZip (StandsFresh disk) nodes disks
+    all_stand count = zipped (StandsFresh disk) nodes disks count
         (λ k n at. let own = are.each k n at in (own.0, own.1, own.2.stands))

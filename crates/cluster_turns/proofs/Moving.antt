@@ -16,7 +16,7 @@ use Rattle.node.specs.State.{LoggedNode, NodeState}
 use Rattle.node.specs.Step.{Asked, Taken, Takes, after, note_in, sends_in, taken_by}
 use Rattle.node.specs.declared.fault.NodeFault.TheVariants as fault
 use Rattle.turn_rules.specs.Offered.{parcels_from}
-use Rattle.datagram_ports.specs.Kept.{GoesOnBy, Parcel}
+use Rattle.datagram_ports.specs.Kept.{GoesOnBy}
 use Rattle.protocol.specs.State.{Value}
 use Rattle.stable_record.specs.Faults.{HasRisen}
 use Rattle.stable_record.specs.History.{History}
@@ -36,6 +36,8 @@ use Rattle.world.specs.Happening.{Acts, IsRefused}
 use Rattle.world.specs.Sent.{with_sends}
 use Rattle.world.specs.World.{IsMade, World, WorldNode, up_node}
 use Rattle.world.specs.declared.fault.WorldFault.TheVariants as worlds
+use Rattle.stable_record.specs.declared.disk.Disk.{Ghosts as Disk}
+use Rattle.datagram_ports.specs.declared.port.Port.{Ghosts as Port}
 
 -- the member of a node that is up
 pub here_at : {D : Type 0} (nodes : List (LoggedNode D)) (k : ℕ) (n : LoggedNode D)
@@ -119,41 +121,41 @@ module _ {D P : Type 0} (old : ClusterState D P) (r : PreparedStep) (e : Event)
     is_after : (m : LoggedNode D) → slice_get new.nodes k ≡ Some m → later ≡ m
     is_after m at = at_place old.nodes new.nodes k n later m due.at.stands nodes at
 
-    module _ (is_kept : D → Type 0) (kept : is_kept later.log.disk → is_kept n.log.disk) where
+    module _ (disk : Disk D) (kept : disk.is_kept later.log.disk → disk.is_kept n.log.disk) where
       -- each disk that keeps to the disk model did so before
-      were_kept : WereKept is_kept old new
+      were_kept : WereKept disk old new
       were_kept j before after stood stands is = elim (cases_eq j k) [
         | inl same ↦
             let first : n ≡ before = is_before before (ap (slice_get old.nodes) (sym same) ∙ stood) in
             let last : later ≡ after = is_after after (ap (slice_get new.nodes) (sym same) ∙ stands) in
-            subst (λ (m : LoggedNode D). is_kept m.log.disk) first
-            (kept (subst (λ (m : LoggedNode D). is_kept m.log.disk) (sym last) is))
+            subst (λ (m : LoggedNode D). disk.is_kept m.log.disk) first
+            (kept (subst (λ (m : LoggedNode D). disk.is_kept m.log.disk) (sym last) is))
         | inr other ↦
             let stays : before ≡ after = some_same before after
             (sym stood ∙ off_place old.nodes new.nodes k j later after other nodes stands) in
-            subst (λ (m : LoggedNode D). is_kept m.log.disk) (sym stays) is
+            subst (λ (m : LoggedNode D). disk.is_kept m.log.disk) (sym stays) is
       ]
 
       -- a crash at any moment leaves the node's notes, with that of the step or without it
-      step_leaves : (history : D → History) → AreOnLogs is_kept history old
-          → (is_kept later.log.disk → IsOnLog history n
-          → LeavesOneMoreAtMost n.node (note_in r.readied.ready.step) (history n.log.disk)
-          (history later.log.disk))
-          → LeavesItsNotes is_kept history old new e k
-      step_leaves history on_logs any_moment before after w x t stood stands is is_world acts =
+      step_leaves : AreOnLogs disk old
+          → (disk.is_kept later.log.disk → IsOnLog disk.history n
+          → LeavesOneMoreAtMost n.node (note_in r.readied.ready.step) (disk.history n.log.disk)
+          (disk.history later.log.disk))
+          → LeavesItsNotes disk old new e k
+      step_leaves on_logs any_moment before after w x t stood stands is is_world acts =
           let first : n ≡ before = is_before before stood in
           let last : later ≡ after = is_after after stands in
-          let kept_then : is_kept later.log.disk =
-          subst (λ (m : LoggedNode D). is_kept m.log.disk) (sym last) is in
-          let on : IsOnLog history n = on_logs k n due.at.stands due.at.up (kept kept_then) in
+          let kept_then : disk.is_kept later.log.disk =
+          subst (λ (m : LoggedNode D). disk.is_kept m.log.disk) (sym last) is in
+          let on : IsOnLog disk.history n = on_logs k n due.at.stands due.at.up (kept kept_then) in
           let note : note_in r.readied.ready.step ≡ t.answer.note =
           sym note_is ∙ ap (λ (u : Taken). u.answer.note) (sym (only_step w x t is_world acts)) in
           subst (λ (m : LoggedNode D). LeavesOneMoreAtMost before.node t.answer.note
-          (history before.log.disk) (history m.log.disk)) last
+          (disk.history before.log.disk) (disk.history m.log.disk)) last
           (subst (λ (m : LoggedNode D). LeavesOneMoreAtMost m.node t.answer.note
-          (history m.log.disk) (history later.log.disk)) first
-          (subst (λ o. LeavesOneMoreAtMost n.node o (history n.log.disk)
-          (history later.log.disk)) note (any_moment kept_then on)))
+          (disk.history m.log.disk) (disk.history later.log.disk)) first
+          (subst (λ o. LeavesOneMoreAtMost n.node o (disk.history n.log.disk)
+          (disk.history later.log.disk)) note (any_moment kept_then on)))
 
   -- ---- refused because the log has no room
 
@@ -170,11 +172,10 @@ module _ {D P : Type 0} (old : ClusterState D P) (r : PreparedStep) (e : Event)
 
 -- ---- taken
 
-module _ {D P : Type 0} (is_kept : D → Type 0) (history : D → History)
-    (offered : P → Option (List Parcel)) (old new : ClusterState D P)
-    (division : new.division ≡ old.division) (weights : new.weights ≡ old.weights) (r : PreparedStep)
-    (e : Event)
-    (took : TakesStep is_kept history offered (turning_of old) (turning_of new) r e) where
+module _ {D P : Type 0} (disk : Disk D) (port : Port P) (old new : ClusterState D P)
+    (division : new.division ≡ old.division) (weights : new.weights ≡ old.weights)
+    (r : PreparedStep) (e : Event)
+    (took : TakesStep disk port (turning_of old) (turning_of new) r e) where
   abbrev step_due : IsDue old.nodes old.sent r e
   step_due = took.due
 
@@ -202,12 +203,12 @@ module _ {D P : Type 0} (is_kept : D → Type 0) (history : D → History)
         ∙ ap (λ j. slice_set old.nodes j took.after) (sym (event old r e step_due).of_node);
   }
 
-  pub offers_sends : OffersItsSends offered old new e
+  pub offers_sends : OffersItsSends port old new e
   offers_sends w x t is acts =
-      subst (λ j. GoesOnBy (parcels_from j (datagrams_to t.answer.sends)) (offered old.port)
-      (offered new.port)) (sym (event old r e step_due).of_node)
-      (subst (λ s. GoesOnBy (parcels_from r.node (datagrams_to s)) (offered old.port)
-      (offered new.port))
+      subst (λ j. GoesOnBy (parcels_from j (datagrams_to t.answer.sends)) (port.offered old.port)
+      (port.offered new.port)) (sym (event old r e step_due).of_node)
+      (subst (λ s. GoesOnBy (parcels_from r.node (datagrams_to s)) (port.offered old.port)
+      (port.offered new.port))
       (sym (ap (λ (u : Taken). u.answer.sends) (only_step old r e step_due w x t is acts)
       ∙ sends_are old r e step_due)) took.offers)
 
@@ -232,126 +233,125 @@ module _ {D P : Type 0} (is_kept : D → Type 0) (history : D → History)
       moved
 
   -- each node that is up is on its log
-  pub taken_on_logs : AreOnLogs is_kept history old → AreOnLogs is_kept history new
+  pub taken_on_logs : AreOnLogs disk old → AreOnLogs disk new
   taken_on_logs on_logs j m at up kept = elim (cases_eq j r.node) [
     | inl same ↦
         let last : took.after ≡ m = at_place old.nodes new.nodes r.node step_due.at.node took.after m
         step_due.at.stands took.nodes (ap (slice_get new.nodes) (sym same) ∙ at) in
-        let kept_then : is_kept took.after.log.disk =
-        subst (λ (x : LoggedNode D). is_kept x.log.disk) (sym last) kept in
-        subst (IsOnLog history) last (took.took.on_log kept_then
+        let kept_then : disk.is_kept took.after.log.disk =
+        subst (λ (x : LoggedNode D). disk.is_kept x.log.disk) (sym last) kept in
+        subst (IsOnLog disk.history) last (took.took.on_log kept_then
         (on_logs r.node step_due.at.node step_due.at.stands step_due.at.up (took.took.kept kept_then)))
     | inr other ↦
         on_logs j m (off_place old.nodes new.nodes r.node j took.after m other took.nodes at) up kept
   ]
 
   -- each disk that keeps to the disk model did so before
-  pub taken_were_kept : WereKept is_kept old new
+  pub taken_were_kept : WereKept disk old new
   taken_were_kept =
-      were_kept old r e step_due new took.after took.nodes is_kept took.took.kept
+      were_kept old r e step_due new took.after took.nodes disk took.took.kept
 
   -- a crash at any moment leaves the notes of the event's node, with that of the step or without it
-  pub taken_leaves : AreOnLogs is_kept history old
-      → LeavesItsNotes is_kept history old new e (node_of e)
+  pub taken_leaves : AreOnLogs disk old → LeavesItsNotes disk old new e (node_of e)
   taken_leaves on_logs =
-      subst (LeavesItsNotes is_kept history old new e) (sym (event old r e step_due).of_node)
-      (step_leaves old r e step_due new took.after took.nodes is_kept took.took.kept history on_logs
+      subst (LeavesItsNotes disk old new e) (sym (event old r e step_due).of_node)
+      (step_leaves old r e step_due new took.after took.nodes disk took.took.kept on_logs
       took.took.any_moment)
 
 -- ---- down
 
-module _ {D P : Type 0} (is_kept : D → Type 0) (history : D → History) (failures : D → ℕ)
-    (offered : P → Option (List Parcel)) (old new : ClusterState D P)
-    (division : new.division ≡ old.division) (weights : new.weights ≡ old.weights) (r : PreparedStep)
-    (e : Event)
-    (goes : GoesDown is_kept history failures offered (turning_of old) (turning_of new) r e) where
-  abbrev stop_due : IsDue old.nodes old.sent r e
-  stop_due = goes.due
+module _ {D P : Type 0} (disk : Disk D) (port : Port P) (old new : ClusterState D P)
+    (division : new.division ≡ old.division) (weights : new.weights ≡ old.weights)
+    (r : PreparedStep) (e : Event) (goes : GoesDown disk port (turning_of old) (turning_of new) r e)
+  where
+    abbrev stop_due : IsDue old.nodes old.sent r e
+    stop_due = goes.due
 
-  abbrev stopping : LoggedNode D
-  stopping = stop_due.at.node
+    abbrev stopping : LoggedNode D
+    stopping = stop_due.at.node
 
-  dropped : HasDropped old new r.node e stopping goes.after
-  dropped = record {
-    division = division;
-    weights = weights;
-    nodes = goes.nodes;
-    down = goes.failed.state;
-    sent = goes.sent;
-    events = goes.events;
-  }
+    dropped : HasDropped old new r.node e stopping goes.after
+    dropped = record {
+      division = division;
+      weights = weights;
+      nodes = goes.nodes;
+      down = goes.failed.state;
+      sent = goes.sent;
+      events = goes.events;
+    }
 
-  has_place : ¬ IsFull stopping.node (step_of old r e stop_due).answer.note
-  has_place =
-      no_room old r e stop_due
-      (has_room stopping.log (note_in r.readied.ready.step) goes.failed.room)
+    has_place : ¬ IsFull stopping.node (step_of old r e stop_due).answer.note
+    has_place =
+        no_room old r e stop_due
+        (has_room stopping.log (note_in r.readied.ready.step) goes.failed.room)
 
-  pub has_stopped : HasHappened old new (StopIn e left.None)
-  has_stopped =
-      went old r.node stopping stop_due.at.stands stop_due.at.up (asked_by r.readied.act)
-      stop_due.can e (event old r e stop_due) (step_of old r e stop_due) (takes old r e stop_due) has_place new goes.after dropped
+    pub has_stopped : HasHappened old new (StopIn e left.None)
+    has_stopped =
+        went old r.node stopping stop_due.at.stands stop_due.at.up (asked_by r.readied.act)
+        stop_due.can e (event old r e stop_due) (step_of old r e stop_due) (takes old r e stop_due) has_place new goes.after dropped
 
-  pub went_down : WentDown old new e r.node
-  went_down = record {
-    of_node = (event old r e stop_due).of_node;
-    before = stopping;
-    stood = stop_due.at.stands;
-    after = goes.after;
-    nodes = goes.nodes;
-    down = goes.failed.state;
-    sent = goes.sent;
-    pending = goes.pending;
-    events = goes.events;
-    stopped = has_stopped;
-    any_case = λ w l is.
-        stops old r.node stopping stop_due.at.stands stop_due.at.up (asked_by r.readied.act)
-        stop_due.can e (event old r e stop_due) (step_of old r e stop_due) (takes old r e stop_due) has_place w l is;
-  }
+    pub went_down : WentDown old new e r.node
+    went_down = record {
+      of_node = (event old r e stop_due).of_node;
+      before = stopping;
+      stood = stop_due.at.stands;
+      after = goes.after;
+      nodes = goes.nodes;
+      down = goes.failed.state;
+      sent = goes.sent;
+      pending = goes.pending;
+      events = goes.events;
+      stopped = has_stopped;
+      any_case = λ w l is.
+          stops old r.node stopping stop_due.at.stands stop_due.at.up (asked_by r.readied.act)
+          stop_due.can e (event old r e stop_due) (step_of old r e stop_due) (takes old r e stop_due) has_place w l is;
+    }
 
-  -- this holds whatever was left of this stop and of earlier ones
-  pub down_in_any : IsMade old.division old.weights → StandsInAnyCase old → StandsInAnyCase new
-  down_in_any made any =
-      stopped_in_any old r.node stopping stop_due.at.stands stop_due.at.up
-      (asked_by r.readied.act) stop_due.can e (event old r e stop_due) (step_of old r e stop_due)
-      (takes old r e stop_due) has_place made any new division weights goes.after goes.nodes
-      (ap (λ (x : NodeState). x.stopped) goes.failed.state) goes.sent goes.events
+    -- this holds whatever was left of this stop and of earlier ones
+    pub down_in_any : IsMade old.division old.weights → StandsInAnyCase old → StandsInAnyCase new
+    down_in_any made any =
+        stopped_in_any old r.node stopping stop_due.at.stands stop_due.at.up
+        (asked_by r.readied.act) stop_due.can e (event old r e stop_due) (step_of old r e stop_due)
+        (takes old r e stop_due) has_place made any new division weights goes.after goes.nodes
+        (ap (λ (x : NodeState). x.stopped) goes.failed.state) goes.sent goes.events
 
-  pub has_failed_at : HasFailedAt failures old new r.node
-  has_failed_at before after stood stands =
-      subst (λ (m : LoggedNode D). HasRisen (failures before.log.disk) (failures m.log.disk))
-      (is_after old r e stop_due new goes.after goes.nodes after stands)
-      (subst (λ (m : LoggedNode D). HasRisen (failures m.log.disk) (failures goes.after.log.disk))
-      (is_before old r e stop_due before stood) goes.failed.risen)
+    pub has_failed_at : HasFailedAt disk old new r.node
+    has_failed_at before after stood stands =
+        subst (λ (m : LoggedNode D). HasRisen (disk.failures_of before.log.disk)
+        (disk.failures_of m.log.disk))
+        (is_after old r e stop_due new goes.after goes.nodes after stands)
+        (subst (λ (m : LoggedNode D). HasRisen (disk.failures_of m.log.disk)
+        (disk.failures_of goes.after.log.disk))
+        (is_before old r e stop_due before stood) goes.failed.risen)
 
-  -- the event of the stop is this one
-  one_stop : (f : Event) → taken new ≡ taken old ++ StopIn f left.None ∷ [] → e ≡ f
-  one_stop f events =
-      let same : StopIn e left.None ≡ StopIn f left.None =
-      last_same (taken old) (StopIn e left.None) (StopIn f left.None) (sym goes.events ∙ events) in
-      cc
+    -- the event of the stop is this one
+    one_stop : (f : Event) → taken new ≡ taken old ++ StopIn f left.None ∷ [] → e ≡ f
+    one_stop f events =
+        let same : StopIn e left.None ≡ StopIn f left.None =
+        last_same (taken old) (StopIn e left.None) (StopIn f left.None) (sym goes.events ∙ events) in
+        cc
 
-  pub leaves_notes : AreOnLogs is_kept history old → (f : Event)
-      → taken new ≡ taken old ++ StopIn f left.None ∷ []
-      → LeavesItsNotes is_kept history old new f r.node
-  leaves_notes on_logs f events =
-      subst (λ g. LeavesItsNotes is_kept history old new g r.node) (one_stop f events)
-      (step_leaves old r e stop_due new goes.after goes.nodes is_kept goes.failed.kept history
-      on_logs goes.failed.any_moment)
+    pub leaves_notes : AreOnLogs disk old → (f : Event)
+        → taken new ≡ taken old ++ StopIn f left.None ∷ [] → LeavesItsNotes disk old new f r.node
+    leaves_notes on_logs f events =
+        subst (λ g. LeavesItsNotes disk old new g r.node) (one_stop f events)
+        (step_leaves old r e stop_due new goes.after goes.nodes disk goes.failed.kept on_logs
+        goes.failed.any_moment)
 
-  -- each disk that keeps to the disk model did so before
-  pub down_were_kept : WereKept is_kept old new
-  down_were_kept =
-      were_kept old r e stop_due new goes.after goes.nodes is_kept goes.failed.kept
+    -- each disk that keeps to the disk model did so before
+    pub down_were_kept : WereKept disk old new
+    down_were_kept =
+        were_kept old r e stop_due new goes.after goes.nodes disk goes.failed.kept
 
-  pub down_on_logs : AreOnLogs is_kept history old → AreOnLogs is_kept history new
-  down_on_logs on_logs j m at up kept = elim (cases_eq j r.node) [
-    | inl same ↦ absurd (true≢false (
-        sym (ap (λ (x : NodeState). x.stopped) goes.failed.state)
-        ∙ ap (λ (x : LoggedNode D). x.node.stopped)
-        (is_after old r e stop_due new goes.after goes.nodes m
-        (ap (slice_get new.nodes) (sym same) ∙ at))
-        ∙ up))
-    | inr other ↦
-        on_logs j m (off_place old.nodes new.nodes r.node j goes.after m other goes.nodes at) up
-        kept
-  ]
+    pub down_on_logs : AreOnLogs disk old → AreOnLogs disk new
+    down_on_logs on_logs j m at up kept = elim (cases_eq j r.node) [
+      | inl same ↦ absurd (true≢false (
+          sym (ap (λ (x : NodeState). x.stopped) goes.failed.state)
+          ∙ ap (λ (x : LoggedNode D). x.node.stopped)
+          (is_after old r e stop_due new goes.after goes.nodes m
+          (ap (slice_get new.nodes) (sym same) ∙ at))
+          ∙ up))
+      | inr other ↦
+          on_logs j m (off_place old.nodes new.nodes r.node j goes.after m other goes.nodes at) up
+          kept
+    ]

@@ -13,7 +13,6 @@ use Rattle.node.specs.State.{LoggedNode, NodeState, opened_node}
 use Rattle.protocol.specs.State.{Value}
 use Rattle.stable_record.specs.Log.{gate_place}
 use Rattle.stable_record.specs.Log as log
-use Rattle.stable_record.specs.History.{History}
 use Rattle.cluster_turns.proofs.AnyCase.{starts_in_any}
 use Rattle.cluster_turns.proofs.Fresh.{no_notes}
 use Rattle.cluster_turns.specs.State.{AreOnLogs, ClusterState, IsWorldOf, node_view, taken}
@@ -22,6 +21,7 @@ use Rattle.cluster_turns.specs.inside.Opening.{AreFresh}
 use Rattle.cluster_turns.specs.inside.Standing.{IsCluster, cluster_of}
 use Rattle.world.specs.Happening.{Leads}
 use Rattle.world.specs.World.{IsMade, down_node, fresh_node, node_at, start, up_node}
+use Rattle.stable_record.specs.declared.disk.Disk.{Ghosts as Disk}
 
 module _ {D : Type 0} (tree : Tree) (weights : List ℕ) (me : ℕ) (n : LoggedNode D)
     (opened : IsOpened tree weights me n.node) where
@@ -62,11 +62,10 @@ alike : {X Y : Type 0} (f : X → Y) (y : Y) (xs : List X)
 alike f y [] same = refl
 alike f y (x ∷ xs) same = λ i. same 0 x refl i ∷ alike f y xs (λ k. same (suc k)) i
 
-module _ {D P : Type 0} (is_kept : D → Type 0) (history : D → History) (tree : Tree)
-    (weights : List ℕ) (disks : List D) (c : ClusterState D P) (of_tree : c.division.tree ≡ tree)
-    (made : IsMade c.division weights) (weigh : c.weights ≡ weights)
-    (count : length c.nodes ≡ length weights)
-    (fresh : AreFresh is_kept history tree weights disks c.nodes) where
+module _ {D P : Type 0} (disk : Disk D) (tree : Tree) (weights : List ℕ) (disks : List D)
+    (c : ClusterState D P) (of_tree : c.division.tree ≡ tree) (made : IsMade c.division weights)
+    (weigh : c.weights ≡ weights) (count : length c.nodes ≡ length weights)
+    (fresh : AreFresh disk tree weights disks c.nodes) where
   -- each node is the one over the cluster's units
   fresh_is : (k : ℕ) (n : LoggedNode D) → slice_get c.nodes k ≡ Some n
       → n.node ≡ opened_node c.division weights k []
@@ -99,19 +98,19 @@ module _ {D P : Type 0} (is_kept : D → Type 0) (history : D → History) (tree
   }
 
 -- each node that is up is on its log
-pub fresh_on_logs : {D P : Type 0} (is_kept : D → Type 0) (history : D → History) (tree : Tree)
+pub fresh_on_logs : {D P : Type 0} (disk : Disk D) (tree : Tree)
     (weights : List ℕ) (disks : List D) (c : ClusterState D P)
-    → AreFresh is_kept history tree weights disks c.nodes → AreOnLogs is_kept history c
-fresh_on_logs is_kept history tree weights disks c fresh k n at up kept =
+    → AreFresh disk tree weights disks c.nodes → AreOnLogs disk c
+fresh_on_logs disk tree weights disks c fresh k n at up kept =
     ((fresh.each k n at).2).on_log kept
 
 -- ---- the cluster
 
-module _ {D P : Type 0} (is_kept : D → Type 0) (history : D → History) (tree : Tree)
-    (weights : List ℕ) (disks : List D) (c : Inside D P) (of_tree : c.units.tree ≡ tree)
-    (own : c.tree.now ≡ tree) (made : IsMade c.units weights) (weigh : c.weights ≡ weights)
+module _ {D P : Type 0} (disk : Disk D) (tree : Tree) (weights : List ℕ) (disks : List D)
+    (c : Inside D P) (of_tree : c.units.tree ≡ tree) (own : c.tree.now ≡ tree)
+    (made : IsMade c.units weights) (weigh : c.weights ≡ weights)
     (count : length c.nodes.items ≡ length weights)
-    (fresh : AreFresh is_kept history tree weights disks c.nodes.items) (sent : c.sent ≡ [])
+    (fresh : AreFresh disk tree weights disks c.nodes.items) (sent : c.sent ≡ [])
     (events : c.events.items ≡ []) (pending : c.pending ≡ nothing_kept)
     (unfailed : c.unfailed ≡ replicate 9 0) where
   -- the invariant holds
@@ -120,12 +119,12 @@ module _ {D P : Type 0} (is_kept : D → Type 0) (history : D → History) (tree
     tree = of_tree ∙ sym own;
     divided = made.divided;
     world = start c.units weights;
-    is_world = starts is_kept history tree weights disks (cluster_of c) of_tree made weigh count
+    is_world = starts disk tree weights disks (cluster_of c) of_tree made weigh count
         fresh sent events;
     count = count ∙ ap length (sym weigh);
     placed = omega (arith, ap (λ (p : Pending). p.next) pending);
     any_case = starts_in_any (cluster_of c) (start c.units weights)
-        (starts is_kept history tree weights disks (cluster_of c) of_tree made weigh count fresh
+        (starts disk tree weights disks (cluster_of c) of_tree made weigh count fresh
         sent events) (ap (map event_view) events);
     below = subst (EachFailedBelow c.nodes.items c.pending) (sym unfailed)
         (none_yet c.nodes.items c.pending 9);

@@ -26,14 +26,15 @@ use Rattle.node.specs.Step.{IsAsked, ReadyStep, note_in, sends_in}
 use Rattle.node.specs.declared.fault.NodeFault.{NodeFault}
 use Rattle.node.specs.declared.fault.NodeFault.TheVariants as fault
 use Rattle.turn_rules.specs.Offered.{parcels_from}
-use Rattle.datagram_ports.specs.Kept.{Arrived, GoesOnBy, Parcel}
+use Rattle.datagram_ports.specs.Kept.{Arrived, GoesOnBy}
 use Rattle.protocol.specs.State.{Value}
 use Rattle.stable_record.specs.Faults.{HasRisen}
-use Rattle.stable_record.specs.History.{History}
 use Rattle.stable_record.specs.declared.log_fault.LogFault.TheVariants as log
 use Rattle.cluster_turns.proofs.OneStep.{some_same}
 use Rattle.cluster_turns.specs.inside.Turning.{HasFailed, HasNotTaken, HasStayed, HasTaken, IsDue, IsMadeReady, IsTakenAs, IsTurn, StandsStill, StopsAs, TakesStep, Turning}
 use Rattle.world.specs.Sent.{with_sends}
+use Rattle.stable_record.specs.declared.disk.Disk.{Ghosts as Disk}
+use Rattle.datagram_ports.specs.declared.port.Port.{Ghosts as Port}
 
 -- what an index reads is the element at that place
 pub index_is : {X : Type 0} (xs : List X) (k : ℕ) (n x : X) → slice_get xs k ≡ Some n
@@ -67,15 +68,14 @@ then_goes_on more (Some xs) (Some ys) (Some zs) first then =
 
 -- ---- what a node's refusal leaves
 
-module _ {D : Type 0} (is_kept : D → Type 0) (history : D → History) (failures : D → ℕ)
-    (old new : LoggedNode D) (ready : ReadyStep)
-    (kept : is_kept new.log.disk → is_kept old.log.disk) where
+module _ {D : Type 0} (disk : Disk D) (old new : LoggedNode D) (ready : ReadyStep)
+    (kept : disk.is_kept new.log.disk → disk.is_kept old.log.disk) where
   -- the node is unchanged, unless its device failed
   stayed : (f : NodeFault) → (f ≡ fault.Log log.Device → ⊥)
       → (f ≡ fault.Log log.Device) ⊎ (new.node ≡ old.node)
-      → (is_kept new.log.disk → IsOnLog history old → (f ≡ fault.Log log.Device)
-      ⊎ (IsOnLog history new × (history new.log.disk ≡ history old.log.disk)))
-      → HasStayed is_kept history old new
+      → (disk.is_kept new.log.disk → IsOnLog disk.history old → (f ≡ fault.Log log.Device)
+      ⊎ (IsOnLog disk.history new × (disk.history new.log.disk ≡ disk.history old.log.disk)))
+      → HasStayed disk old new
   stayed f other stays on_log = record {
     state = ⊎_elim (λ e. absurd (other e)) (λ same. same) stays;
     kept = kept;
@@ -84,14 +84,15 @@ module _ {D : Type 0} (is_kept : D → Type 0) (history : D → History) (failur
 
   pub not_taken : (f : NodeFault) → IsLogCause old.log (note_in ready.step) f
       → (f ≡ fault.Log log.Device) ⊎ (new.node ≡ old.node)
-      → (is_kept new.log.disk → IsOnLog history old → (f ≡ fault.Log log.Device)
-      ⊎ (IsOnLog history new × (history new.log.disk ≡ history old.log.disk)))
+      → (disk.is_kept new.log.disk → IsOnLog disk.history old → (f ≡ fault.Log log.Device)
+      ⊎ (IsOnLog disk.history new × (disk.history new.log.disk ≡ disk.history old.log.disk)))
       → (f ≡ fault.Log log.Device → new.node ≡ record old.node { stopped = true })
-      → (f ≡ fault.Log log.Device → HasRisen (failures old.log.disk) (failures new.log.disk))
-      → (is_kept new.log.disk → IsOnLog history old
-      → LeavesOneMoreAtMost old.node (note_in ready.step) (history old.log.disk)
-      (history new.log.disk))
-      → HasNotTaken is_kept history failures old new ready f
+      → (f ≡ fault.Log log.Device
+      → HasRisen (disk.failures_of old.log.disk) (disk.failures_of new.log.disk))
+      → (disk.is_kept new.log.disk → IsOnLog disk.history old
+      → LeavesOneMoreAtMost old.node (note_in ready.step) (disk.history old.log.disk)
+      (disk.history new.log.disk))
+      → HasNotTaken disk old new ready f
   not_taken fault.Memory cause stays on_log stops risen any_moment =
       stayed fault.Memory (λ e. cc) stays on_log
   not_taken (fault.Refused r) cause stays on_log stops risen any_moment = absurd cause
@@ -113,13 +114,12 @@ module _ {D : Type 0} (is_kept : D → Type 0) (history : D → History) (failur
 
 -- ---- what was chosen
 
-module _ {D P : Type 0} (is_kept : D → Type 0) (history : D → History) (failures : D → ℕ)
-    (offered : P → Option (List Parcel)) (old new : Turning D P) (r : PreparedStep)
+module _ {D P : Type 0} (disk : Disk D) (port : Port P) (old new : Turning D P) (r : PreparedStep)
     (at : IsReadiedAt old.nodes r.node (asked_by r.readied.act) r.readied) where
   -- nothing changed
   pub all_still : new.nodes ≡ old.nodes → new.sent ≡ old.sent → new.events ≡ old.events
-      → new.pending ≡ old.pending → GoesOnBy [] (offered old.port) (offered new.port)
-      → StandsStill is_kept history offered old new
+      → new.pending ≡ old.pending → GoesOnBy [] (port.offered old.port) (port.offered new.port)
+      → StandsStill disk port old new
   all_still nodes sent events pending offers = record {
     nodes = inl nodes;
     sent = sent;
@@ -146,18 +146,18 @@ module _ {D P : Type 0} (is_kept : D → Type 0) (history : D → History) (fail
     map_push (x ∷ xs) e = ap (λ l. event_view x ∷ l) (map_push xs e)
 
     -- it was taken
-    pub is_taken : HasTaken is_kept history at.node after r.readied.ready
+    pub is_taken : HasTaken disk at.node after r.readied.ready
         → new.sent ≡ with_sends old.sent (sends_in r.readied.ready.step)
         → new.pending ≡ kept_after old.pending r.node at.node.node.member (asked_by r.readied.act)
         → new.events ≡ old.events ++ recorded.kept ∷ []
         → GoesOnBy (parcels_from r.node (datagrams_to (sends_in r.readied.ready.step)))
-        (offered old.port) (offered new.port)
+        (port.offered old.port) (port.offered new.port)
         → (answered : declared.Event) → answered ≡ recorded.answered
-        → TakesStep is_kept history offered old new r (event_view answered)
+        → TakesStep disk port old new r (event_view answered)
     is_taken took sent pending events offers answered same =
         let one : event_view answered ≡ event_view recorded.kept =
         ap event_view same ∙ is.answered in
-        subst (TakesStep is_kept history offered old new r) (sym one) (record {
+        subst (TakesStep disk port old new r) (sym one) (record {
           due = due_as recorded is can logged;
           after = after;
           nodes = nodes;
@@ -169,10 +169,9 @@ module _ {D P : Type 0} (is_kept : D → Type 0) (history : D → History) (fail
         })
 
     -- the node is unchanged
-    still : HasStayed is_kept history at.node after → new.sent ≡ old.sent
-        → new.events ≡ old.events → new.pending ≡ old.pending
-        → GoesOnBy [] (offered old.port) (offered new.port)
-        → StandsStill is_kept history offered old new
+    still : HasStayed disk at.node after → new.sent ≡ old.sent → new.events ≡ old.events
+        → new.pending ≡ old.pending → GoesOnBy [] (port.offered old.port) (port.offered new.port)
+        → StandsStill disk port old new
     still stays sent events pending offers = record {
       nodes = inr (record {
         number = r.node;
@@ -191,20 +190,19 @@ module _ {D P : Type 0} (is_kept : D → Type 0) (history : D → History) (fail
 
     -- it was not taken
     pub is_not_taken : (why : NodeFault) (f : TurnFault)
-        → HasNotTaken is_kept history failures at.node after r.readied.ready why
-        → StopsAs r.node recorded.stop old.events new.events why f
-        → new.sent ≡ old.sent → new.pending ≡ old.pending
-        → GoesOnBy [] (offered old.port) (offered new.port)
-        → IsTakenAs is_kept history failures offered old new r (Err f)
+        → HasNotTaken disk at.node after r.readied.ready why
+        → StopsAs r.node recorded.stop old.events new.events why f → new.sent ≡ old.sent
+        → new.pending ≡ old.pending → GoesOnBy [] (port.offered old.port) (port.offered new.port)
+        → IsTakenAs disk port old new r (Err f)
     is_not_taken why f failed_so shown sent pending offers =
         by why recorded.stop failed_so shown is.stop
       where
         IsAs : TurnFault → Type 0
-        IsAs g = IsTakenAs is_kept history failures offered old new r (Err g)
+        IsAs g = IsTakenAs disk port old new r (Err g)
 
         down : (note : Option (Note Value)) (stop : Option declared.Event)
             → HasRoomForNote at.node.log note → IsStopOf note (event_view recorded.kept) stop
-            → HasFailed is_kept history failures at.node after r.readied.ready
+            → HasFailed disk at.node after r.readied.ready
             → StopsAs r.node stop old.events new.events (fault.Log log.Device) f → IsAs f
         down None stop room is_stop failed shown = absurd room
         down (Some note) None room is_stop failed shown = absurd is_stop
@@ -228,7 +226,7 @@ module _ {D P : Type 0} (is_kept : D → Type 0) (history : D → History) (fail
             )
 
         by : (why : NodeFault) (stop : Option declared.Event)
-            → HasNotTaken is_kept history failures at.node after r.readied.ready why
+            → HasNotTaken disk at.node after r.readied.ready why
             → StopsAs r.node stop old.events new.events why f
             → IsStopOf (note_in r.readied.ready.step) (event_view recorded.kept) stop → IsAs f
         by fault.Memory stop failed_so shown is_stop =
@@ -285,26 +283,24 @@ made_later nodes sent p builds a b c o made goes = record {
   event = made.event;
 }
 
-module _ {D P : Type 0} (is_kept : D → Type 0) (history : D → History) (failures : D → ℕ)
-    (given : P → Option (List Arrived)) (offered : P → Option (List Parcel)) (old new : Turning D P)
-    (p : P) (silent : GoesOnBy [] (offered p) (offered old.port)) (r : PreparedStep) where
+module _ {D P : Type 0} (disk : Disk D) (port : Port P) (old new : Turning D P) (p : P)
+    (silent : GoesOnBy [] (port.offered p) (port.offered old.port)) (r : PreparedStep) where
   -- the parts with an earlier port, to which nothing was offered since
   abbrev before : Turning D P
   before = record old { port = p }
 
-  still_before : StandsStill is_kept history offered old new
-      → StandsStill is_kept history offered before new
+  still_before : StandsStill disk port old new → StandsStill disk port before new
   still_before s = record {
     nodes = s.nodes;
     sent = s.sent;
     events = s.events;
     pending = s.pending;
-    offers = then_goes_on [] (offered p) (offered old.port) (offered new.port) silent s.offers;
+    offers = then_goes_on [] (port.offered p) (port.offered old.port) (port.offered new.port) silent
+        s.offers;
   }
 
-  taken_before : (result : Result declared.Event TurnFault)
-      → IsTakenAs is_kept history failures offered old new r result
-      → IsTakenAs is_kept history failures offered before new r result
+  taken_before : (result : Result declared.Event TurnFault) → IsTakenAs disk port old new r result
+      → IsTakenAs disk port before new r result
   taken_before (Ok e) t = record {
     due = t.due;
     after = t.after;
@@ -314,7 +310,7 @@ module _ {D P : Type 0} (is_kept : D → Type 0) (history : D → History) (fail
     pending = t.pending;
     events = t.events;
     offers = then_goes_on (parcels_from r.node (datagrams_to (sends_in r.readied.ready.step)))
-        (offered p) (offered old.port) (offered new.port) silent t.offers;
+        (port.offered p) (port.offered old.port) (port.offered new.port) silent t.offers;
   }
   taken_before (Err refused.Memory) t = still_before t
   taken_before (Err (refused.Node f)) t = (t.0, t.1, still_before t.2)
@@ -330,8 +326,8 @@ module _ {D P : Type 0} (is_kept : D → Type 0) (history : D → History) (fail
         sent = t.1.1.sent;
         pending = t.1.1.pending;
         events = t.1.1.events;
-        offers = then_goes_on [] (offered p) (offered old.port) (offered new.port) silent
-            t.1.1.offers;
+        offers = then_goes_on [] (port.offered p) (port.offered old.port)
+            (port.offered new.port) silent t.1.1.offers;
       },
     ),
   )
@@ -339,33 +335,31 @@ module _ {D P : Type 0} (is_kept : D → Type 0) (history : D → History) (fail
   taken_before (Err refused.NotFresh) t = absurd t
 
   module _ (builds : Given) (nodes : List (LoggedNode D)) (same : old.nodes ≡ nodes)
-      (made : HasChosen old.nodes old.sent old.pending builds (given p) (given old.port) (Some r))
-      (goes : GoesOnBy [] (given old.port) (given new.port)) where
+      (made : HasChosen old.nodes old.sent old.pending builds (port.given p) (port.given old.port)
+      (Some r))
+      (goes : GoesOnBy [] (port.given old.port) (port.given new.port)) where
     abbrev at_first : List (LoggedNode D) → Turning D P
     at_first ns = record old { nodes = ns; port = p }
 
-    made_first : IsMadeReady given (at_first nodes) new builds (Some r)
+    made_first : IsMadeReady port (at_first nodes) new builds (Some r)
     made_first =
-        subst (λ ns. IsMadeReady given (at_first ns) new builds (Some r)) same
-        (made_later old.nodes old.sent old.pending builds (given p) (given old.port)
-        (given new.port) (Some r) made goes)
+        subst (λ ns. IsMadeReady port (at_first ns) new builds (Some r)) same
+        (made_later old.nodes old.sent old.pending builds (port.given p) (port.given old.port)
+        (port.given new.port) (Some r) made goes)
 
-    taken_first : (result : Result declared.Event TurnFault)
-        → IsTakenAs is_kept history failures offered old new r result
-        → IsTakenAs is_kept history failures offered (at_first nodes) new r result
+    taken_first : (result : Result declared.Event TurnFault) → IsTakenAs disk port old new r result
+        → IsTakenAs disk port (at_first nodes) new r result
     taken_first result t =
-        subst (λ ns. IsTakenAs is_kept history failures offered (at_first ns) new r result) same
+        subst (λ ns. IsTakenAs disk port (at_first ns) new r result) same
         (taken_before result t)
 
     -- it is the turn
-    pub turned : (e : declared.Event)
-        → IsTakenAs is_kept history failures offered old new r (Ok e)
-        → IsTurn is_kept history failures given offered (at_first nodes) new builds (Ok (Some e))
+    pub turned : (e : declared.Event) → IsTakenAs disk port old new r (Ok e)
+        → IsTurn disk port (at_first nodes) new builds (Ok (Some e))
     turned e t = (r, made_first, taken_first (Ok e) t)
 
-    pub turned_not : (f : TurnFault)
-        → IsTakenAs is_kept history failures offered old new r (Err f)
-        → IsTurn is_kept history failures given offered (at_first nodes) new builds (Err f)
+    pub turned_not : (f : TurnFault) → IsTakenAs disk port old new r (Err f)
+        → IsTurn disk port (at_first nodes) new builds (Err f)
     turned_not f t = inr (r, made_first, taken_first (Err f) t)
 
 -- ---- how it is reported

@@ -1,5 +1,5 @@
 -- A turn, by its result: the event in the world, and what the turn leaves.
-use Rattle.std.proofs.Common.{◌≡◌, ◌++◌, ◌⊎◌, ℕ, List, [], ◌∷◌, Option, None, Some, Result, Ok, Err, length, refl, sym, subst, inl, inr, ⊎_elim}
+use Rattle.std.proofs.Common.{◌≡◌, ◌++◌, ◌⊎◌, ℕ, [], ◌∷◌, Option, None, Some, Result, Ok, Err, length, refl, sym, subst, inl, inr, ⊎_elim}
 use Rattle.std.specs.Prelude.{IfErr, IfNone, IfOk, IfSome}
 use Rattle.turn_rules.specs.Acts.{asked_by}
 use Rattle.turn_rules.specs.Choice.{Chosen}
@@ -15,8 +15,7 @@ use Rattle.protocol.specs.Events.{Event, StopIn, event_view, node_of}
 use Rattle.protocol.specs.declared.event.Event as declared
 use Rattle.protocol.specs.declared.event.Left.TheVariants as left
 use Rattle.node.specs.Step.{Comes, Does}
-use Rattle.datagram_ports.specs.Kept.{Arrived, GoesOnBy, Parcel}
-use Rattle.stable_record.specs.History.{History}
+use Rattle.datagram_ports.specs.Kept.{GoesOnBy}
 use Rattle.cluster_turns.proofs.Moving.{full_there, has_failed_at, has_happened, keeps_with, leaves_notes, offers_sends, others_stay, taken_leaves, went_down}
 use Rattle.cluster_turns.proofs.Refusing.{refused_so, some_of}
 use Rattle.cluster_turns.proofs.Still.{are_untouched, is_same}
@@ -27,52 +26,50 @@ use Rattle.cluster_turns.specs.inside.Turning.{GoesDown, IsDue, IsMadeReady, IsT
 use Rattle.world.specs.Happening.{IsRefused}
 use Rattle.world.specs.World.{World}
 use Rattle.world.specs.declared.fault.WorldFault.TheVariants as worlds
+use Rattle.stable_record.specs.declared.disk.Disk.{Ghosts as Disk}
+use Rattle.datagram_ports.specs.declared.port.Port.{Ghosts as Port}
 
 -- What a turn with this result promises.
-pub record Promises {D P : Type 0} (is_kept : D → Type 0) (history : D → History)
-    (failures : D → ℕ) (given : P → Option (List Arrived)) (offered : P → Option (List Parcel))
-    (old new : ClusterState D P) (builds : Given)
-    (result : Result (Option declared.Event) TurnFault) : Type 0 where
-  pub chosen : IfOk result (λ o. IfSome o
-      (λ e. IsEventChosen given old new builds (event_view e)))
-  pub nothing : IfOk result (λ o. IfNone o (IsChosen given old new builds None))
+pub record Promises {D P : Type 0} (disk : Disk D) (port : Port P) (old new : ClusterState D P)
+    (builds : Given) (result : Result (Option declared.Event) TurnFault) : Type 0 where
+  pub chosen : IfOk result (λ o. IfSome o (λ e. IsEventChosen port old new builds (event_view e)))
+  pub nothing : IfOk result (λ o. IfNone o (IsChosen port old new builds None))
   pub happened : IfOk result (λ o. IfSome o (λ e. HasHappened old new (event_view e)))
   pub others : IfOk result (λ o. IfSome o (λ e. OthersStay old new (node_of (event_view e))))
-  pub offers : Offers offered old new result
+  pub offers : Offers port old new result
   pub pending : IfOk result (λ o. IfSome o (λ e. KeepsWith old new (event_view e)))
   pub same : IfOk result (λ o. IfNone o (IsSame old new))
-  pub faults : IfErr result (IsTurnFault given old new builds)
+  pub faults : IfErr result (IsTurnFault port old new builds)
   pub leaves : IfErr result (IsLeftBy old new)
-  pub untouched : IfErr result
-      (λ f. ((k : ℕ) × (f ≡ refused.Down k)) ⊎ AreUntouched is_kept history old new)
-  pub nothing_touched : IfOk result (λ o. IfNone o (AreUntouched is_kept history old new))
+  pub untouched : IfErr result (λ f. ((k : ℕ) × (f ≡ refused.Down k)) ⊎ AreUntouched disk old new)
+  pub nothing_touched : IfOk result (λ o. IfNone o (AreUntouched disk old new))
   pub any_moment_taken : IfOk result (λ o. IfSome o (λ e.
-      LeavesItsNotes is_kept history old new (event_view e) (node_of (event_view e))))
+      LeavesItsNotes disk old new (event_view e) (node_of (event_view e))))
   pub any_moment : IfErr result (λ f. (e : Event) (k : ℕ) → f ≡ refused.Down k
       → taken new ≡ taken old ++ StopIn e left.None ∷ []
-      → LeavesItsNotes is_kept history old new e k)
-  pub device : IfErr result (λ f. (k : ℕ) → f ≡ refused.Down k → HasFailedAt failures old new k)
+      → LeavesItsNotes disk old new e k)
+  pub device : IfErr result (λ f. (k : ℕ) → f ≡ refused.Down k → HasFailedAt disk old new k)
 
-module _ {D P : Type 0} (is_kept : D → Type 0) (history : D → History) (failures : D → ℕ)
-    (given : P → Option (List Arrived)) (offered : P → Option (List Parcel))
-    (old new : ClusterState D P) (builds : Given) (division : new.division ≡ old.division)
-    (weights : new.weights ≡ old.weights) (count : length old.nodes ≡ length old.weights)
-    (w : World) (is : IsWorldOf old w) (on_logs : AreOnLogs is_kept history old) where
+module _ {D P : Type 0} (disk : Disk D) (port : Port P) (old new : ClusterState D P)
+    (builds : Given) (division : new.division ≡ old.division) (weights : new.weights ≡ old.weights)
+    (count : length old.nodes ≡ length old.weights) (w : World) (is : IsWorldOf old w)
+    (on_logs : AreOnLogs disk old) where
   abbrev IsTurnOf : Result (Option declared.Event) TurnFault → Type 0
   IsTurnOf result =
-      IsTurn is_kept history failures given offered (turning_of old) (turning_of new) builds result
+      IsTurn disk port (turning_of old) (turning_of new) builds result
 
   abbrev StandsStillHere : Type 0
-  StandsStillHere = StandsStill is_kept history offered (turning_of old) (turning_of new)
+  StandsStillHere = StandsStill disk port (turning_of old) (turning_of new)
 
   -- ---- the choice
 
   chosen_is : (chosen : Chosen) → IsChosenBy (here_in old.nodes) (length old.nodes) old.pending
-      builds (given old.port) (given new.port) chosen → IsChosen given old new builds chosen
+      builds (port.given old.port) (port.given new.port) chosen
+      → IsChosen port old new builds chosen
   chosen_is chosen by = record {
     came = by.came;
     looked = subst (λ m. GoesOnBy (looked_for (has_job (here_in old.nodes) m builds) by.came)
-        (given old.port) (given new.port)) count by.looked;
+        (port.given old.port) (port.given new.port)) count by.looked;
     choice = subst (λ m. IsChoiceWith (here_in old.nodes) m old.pending builds by.came chosen) count
         by.choice;
   }
@@ -90,12 +87,11 @@ module _ {D P : Type 0} (is_kept : D → Type 0) (history : D → History) (fail
       λ i. Some (number i, asked i)
 
   event_chosen : (r : PreparedStep) (e : Event)
-      → IsMadeReady given (turning_of old) (turning_of new) builds (Some r)
-      → IsDue old.nodes old.sent r e
-      → IsEventChosen given old new builds e
+      → IsMadeReady port (turning_of old) (turning_of new) builds (Some r)
+      → IsDue old.nodes old.sent r e → IsEventChosen port old new builds e
   event_chosen r e made due = record {
     chosen = (r.node, asked_by r.readied.act);
-    is_chosen = subst (IsChosen given old new builds) (chosen_some made.chosen r made.readied)
+    is_chosen = subst (IsChosen port old new builds) (chosen_some made.chosen r made.readied)
         (chosen_is made.chosen made.is_chosen);
     event = due.event;
   }
@@ -103,19 +99,19 @@ module _ {D P : Type 0} (is_kept : D → Type 0) (history : D → History) (fail
   -- ---- nothing changed
 
   still_same : StandsStillHere → IsSame old new
-  still_same still = is_same is_kept history offered old new division weights still
+  still_same still = is_same disk port old new division weights still
 
-  still_untouched : StandsStillHere → AreUntouched is_kept history old new
+  still_untouched : StandsStillHere → AreUntouched disk old new
   still_untouched still =
-      are_untouched is_kept history offered old new division weights still on_logs
+      are_untouched disk port old new division weights still on_logs
 
   -- ---- refusals
 
-  fault_is : (f : TurnFault) → IsTurnOf (Err f) → IsTurnFault given old new builds f
+  fault_is : (f : TurnFault) → IsTurnOf (Err f) → IsTurnFault port old new builds f
   fault_is refused.Memory (inl t) = (t.0.0, chosen_is (Some t.0.0) t.0.1)
   fault_is refused.Memory (inr t) = (
     (t.0.node, asked_by t.0.readied.act),
-    subst (IsChosen given old new builds) (chosen_some t.1.chosen t.0 t.1.readied)
+    subst (IsChosen port old new builds) (chosen_some t.1.chosen t.0 t.1.readied)
         (chosen_is t.1.chosen t.1.is_chosen),
   )
   fault_is (refused.Node f) (inl (refuses, still)) =
@@ -139,7 +135,7 @@ module _ {D P : Type 0} (is_kept : D → Type 0) (history : D → History) (fail
     e,
     event_chosen r e made goes.due,
     subst (WentDown old new e) (sym same)
-        (went_down is_kept history failures offered old new division weights r e goes),
+        (went_down disk port old new division weights r e goes),
   )
   fault_is refused.NotSent (inl (refuses, still)) =
       (refuses.0, refuses.1, chosen_is (Some (refuses.0, Comes refuses.1)) refuses.2, refuses.3)
@@ -152,7 +148,7 @@ module _ {D P : Type 0} (is_kept : D → Type 0) (history : D → History) (fail
   IsStillOrDown f =
       StandsStillHere
       ⊎ ((k : ℕ) × (f ≡ refused.Down k) × ((r : PreparedStep) × (e : Event) × (k ≡ r.node)
-      × GoesDown is_kept history failures offered (turning_of old) (turning_of new) r e))
+      × GoesDown disk port (turning_of old) (turning_of new) r e))
 
   pub still_or_down : (f : TurnFault) → IsTurnOf (Err f) → IsStillOrDown f
   still_or_down f (inl t) = inl t.1
@@ -171,22 +167,21 @@ module _ {D P : Type 0} (is_kept : D → Type 0) (history : D → History) (fail
 
   -- the device of node k failed
   down_leaves : (k : ℕ) (e : Event) → IsTurnOf (Err (refused.Down k))
-      → taken new ≡ taken old ++ StopIn e left.None ∷ []
-      → LeavesItsNotes is_kept history old new e k
+      → taken new ≡ taken old ++ StopIn e left.None ∷ [] → LeavesItsNotes disk old new e k
   down_leaves k e (inl t) events = absurd t.0
   down_leaves k e (inr t) events =
-      subst (LeavesItsNotes is_kept history old new e) (sym t.2.0)
-      (leaves_notes is_kept history failures offered old new division weights t.0 t.2.1.0 t.2.1.1
+      subst (LeavesItsNotes disk old new e) (sym t.2.0)
+      (leaves_notes disk port old new division weights t.0 t.2.1.0 t.2.1.1
       on_logs e events)
 
-  down_failed : (k : ℕ) → IsTurnOf (Err (refused.Down k)) → HasFailedAt failures old new k
+  down_failed : (k : ℕ) → IsTurnOf (Err (refused.Down k)) → HasFailedAt disk old new k
   down_failed k (inl t) = absurd t.0
   down_failed k (inr t) =
-      subst (HasFailedAt failures old new) (sym t.2.0)
-      (has_failed_at is_kept history failures offered old new division weights t.0 t.2.1.0 t.2.1.1)
+      subst (HasFailedAt disk old new) (sym t.2.0)
+      (has_failed_at disk port old new division weights t.0 t.2.1.0 t.2.1.1)
 
   -- a refused turn offered nothing
-  offers_none : (f : TurnFault) → IsTurnOf (Err f) → OffersNothing offered old new
+  offers_none : (f : TurnFault) → IsTurnOf (Err f) → OffersNothing port old new
   offers_none f (inl t) = t.1.offers
   offers_none refused.Memory (inr t) = t.2.offers
   offers_none (refused.Node f) (inr t) = t.2.2.offers
@@ -197,10 +192,10 @@ module _ {D P : Type 0} (is_kept : D → Type 0) (history : D → History) (fail
   -- ---- by the result
 
   pub promises : (result : Result (Option declared.Event) TurnFault) → IsTurnOf result
-      → Promises is_kept history failures given offered old new builds result
+      → Promises disk port old new builds result
   promises (Ok None) t = record {
     chosen = tt;
-    nothing = subst (IsChosen given old new builds) (chosen_none t.0.chosen t.0.readied)
+    nothing = subst (IsChosen port old new builds) (chosen_none t.0.chosen t.0.readied)
         (chosen_is t.0.chosen t.0.is_chosen);
     happened = tt;
     others = tt;
@@ -218,19 +213,19 @@ module _ {D P : Type 0} (is_kept : D → Type 0) (history : D → History) (fail
   promises (Ok (Some e)) t = record {
     chosen = event_chosen t.0 (event_view e) t.1 t.2.due;
     nothing = tt;
-    happened = has_happened is_kept history offered old new division weights t.0 (event_view e)
+    happened = has_happened disk port old new division weights t.0 (event_view e)
         t.2;
-    others = others_stay is_kept history offered old new division weights t.0 (event_view e) t.2;
-    offers = offers_sends is_kept history offered old new division weights t.0 (event_view e)
+    others = others_stay disk port old new division weights t.0 (event_view e) t.2;
+    offers = offers_sends disk port old new division weights t.0 (event_view e)
         t.2;
-    pending = keeps_with is_kept history offered old new division weights t.0 (event_view e) t.2
+    pending = keeps_with disk port old new division weights t.0 (event_view e) t.2
         w is;
     same = tt;
     faults = tt;
     leaves = tt;
     untouched = tt;
     nothing_touched = tt;
-    any_moment_taken = taken_leaves is_kept history offered old new division weights t.0
+    any_moment_taken = taken_leaves disk port old new division weights t.0
         (event_view e) t.2 on_logs;
     any_moment = tt;
     device = tt;

@@ -12,7 +12,7 @@ use Rattle.node.specs.declared.fault.NodeFault.TheVariants as fault
 use Rattle.turn_rules.specs.Calls.{came_by}
 use Rattle.turn_rules.specs.CausedSteps.{IsCausedStep}
 use Rattle.turn_rules.specs.declared.caused_step.CausedStep.{CausedStep}
-use Rattle.datagram_ports.specs.Calls.{Call, Received, WentThrough}
+use Rattle.datagram_ports.specs.Calls.{Received, WentThrough}
 use Rattle.datagram_ports.specs.Kept.{Arrived, GoesOnBy}
 use Rattle.datagram_ports.specs.declared.fault.PortFault.{PortFault}
 use Rattle.protocol.specs.declared.input.Input.{Input}
@@ -21,6 +21,7 @@ use Rattle.protocol.specs.Given.{Given}
 use Rattle.cluster_turns.specs.Here.{here_in}
 use Rattle.cluster_turns.specs.Events.{event_of}
 use Rattle.cluster_turns.specs.declared.chosen.Chosen.{Chosen as PreparedStep}
+use Rattle.datagram_ports.specs.declared.port.Port.{Ghosts as Port}
 
 -- What receives returned in the turn. The port is asked once, unless a job waited for its answer.
 abbrev pub looked_for : Bool → Arrived → List Arrived
@@ -119,8 +120,8 @@ IsChoosingFault nodes sent p builds old new refused.NotFresh = ⊥
 
 -- The port answered these receives, and no other calls. `IsSo` holds of what they returned, with an
 -- empty record before them.
-pub record ByReceives {P : Type 0} (does : P → Call → P → Type 0) (port last : P)
+pub record ByReceives {P : Type 0} (port : Port P) (old new : P)
     (IsSo : Option (List Arrived) → Option (List Arrived) → Type 0) : Type 0 where
   pub received : List (Result Arrived PortFault)
-  pub went : WentThrough does port (map Received received) last
+  pub went : WentThrough port.does old (map Received received) new
   pub so : IsSo (Some []) (Some (map came_by received))

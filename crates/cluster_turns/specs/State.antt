@@ -8,10 +8,10 @@ use Rattle.protocol.specs.declared.event.Event as declared
 use Rattle.faults.specs.Bytes.{Text}
 use Rattle.node.specs.OnLog.{IsOnLog}
 use Rattle.node.specs.State.{LoggedNode}
-use Rattle.stable_record.specs.History.{History}
 use Rattle.engine.specs.Division.{Division}
 use Rattle.world.specs.Happening.{Leads}
 use Rattle.world.specs.World.{IsMade, World, WorldNode, down_node, node_at, start, up_node}
+use Rattle.stable_record.specs.declared.disk.Disk.{Ghosts as Disk}
 
 -- a cluster
 pub record ClusterState (D P : Type 0) : Type 0 where
@@ -54,7 +54,7 @@ pub record IsWorldOf {D P : Type 0} (c : ClusterState D P) (w : World) : Type 0 
       → n.node ≡ node_at w k (node_view n)
 
 -- Each node that is up has its notes on its log, if its disk keeps to the disk model.
-abbrev pub AreOnLogs : {D P : Type 0} → (D → Type 0) → (D → History) → ClusterState D P → Type 0
-AreOnLogs {D} is_kept history c =
+abbrev pub AreOnLogs : {D P : Type 0} → Disk D → ClusterState D P → Type 0
+AreOnLogs {D} disk c =
     (k : ℕ) (n : LoggedNode D) → slice_get c.nodes k ≡ Some n → n.node.stopped ≡ false
-    → is_kept n.log.disk → IsOnLog history n
+    → disk.is_kept n.log.disk → IsOnLog disk.history n

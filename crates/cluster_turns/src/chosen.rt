@@ -100,10 +100,10 @@ pub fn choose<D: Disk, P: Port>(
         builds.now (P.given port.old) (P.given port.new)) }
 
     // The choice, seen by the port's calls, even if it doesn't record them: it only received.
-    ensures calls { IfOk result (λ r. ByReceives P.does port.old port.new
+    ensures calls { IfOk result (λ r. ByReceives P.Port port.old port.new
         (λ before after. HasChosen nodes.new.items sent.now pending.now
         builds.now before after r)) }
-    ensures calls_refused { IfErr result (λ f. ByReceives P.does port.old port.new
+    ensures calls_refused { IfErr result (λ f. ByReceives P.Port port.old port.new
         (λ before after. IsChoosingFault nodes.old.items sent.now pending.now
         builds.now before after f)) }
 {
@@ -164,7 +164,7 @@ fn answer_at<D: Disk>(
 fn received<P: Port>(port: &mut P) -> Option<(u8, Vec<u8>)>
     ensures given { GoesOnBy (arrived result ∷ []) (P.given port.old) (P.given port.new) }
     ensures offered { GoesOnBy [] (P.offered port.old) (P.offered port.new) }
-    ensures calls { WasReceived P.does port.old (arrived result) port.new }
+    ensures calls { WasReceived P.Port port.old (arrived result) port.new }
 {
     match port.receive() {
         Ok(came) => came,

@@ -63,7 +63,7 @@ impl<'a, D: Disk, P: Port> Model for Cluster<'a, D, P> {
 
     ghost use Rattle.cluster_turns.specs.State.{AreOnLogs};
 
-    ghost invariant = { λ c. IsCluster c × AreOnLogs D.is_kept D.history (cluster_of c) };
+    ghost invariant = { λ c. IsCluster c × AreOnLogs D.Disk (cluster_of c) };
 }
 
 impl<'a, D: Disk, P: Port> Cluster<'a, D, P> {
@@ -92,11 +92,10 @@ impl<'a, D: Disk, P: Port> Cluster<'a, D, P> {
         ensures events { IfOk result (λ c. c.events ≡ []) }
         ensures pending { IfOk result (λ c. c.pending ≡ nothing_kept) }
         ensures port { IfOk result (λ c. c.port ≡ port) }
-        ensures on_logs { IfOk result (AreOnLogs D.is_kept D.history) }
-        ensures disks { IfOk result (λ c.
-            AllZip (StandsFresh D.is_kept D.history) c.nodes disks.items) }
-        ensures refused { IfErr result (IsNewFault D.is_kept D.history D.failures_of
-            tree.entry.now weights.now disks.items) }
+        ensures on_logs { IfOk result (AreOnLogs D.Disk) }
+        ensures disks { IfOk result (λ c. AllZip (StandsFresh D.Disk) c.nodes disks.items) }
+        ensures refused { IfErr result
+            (IsNewFault D.Disk tree.entry.now weights.now disks.items) }
     {
         let units = Units::new(alloc, tree)?;
         // These calls are for their contracts: the units divide the tree, and the weights are
@@ -124,7 +123,7 @@ impl<'a, D: Disk, P: Port> Cluster<'a, D, P> {
     /// steps during which nodes went down. Each node that is up has its notes on its log.
     pub fn events(&self) -> &[Event]
         ensures events { result.now ≡ self.now.events }
-        ensures on_logs { AreOnLogs D.is_kept D.history self.now }
+        ensures on_logs { AreOnLogs D.Disk self.now }
         ensures history { (w : worlds.World) × IsWorldOf self.now w }
         ensures one_list { (w : worlds.World) → IsWorldOf self.now w
             → HasOneList self.now.division self.now.weights (taken self.now) w }

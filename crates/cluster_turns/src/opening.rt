@@ -26,9 +26,9 @@ pub(crate) fn fresh_nodes<'a, D: Disk>(
     requires few { length weights.now ≤ 9 }
     ensures count { IfOk result (λ nodes. length nodes.items ≡ length disks.items) }
     ensures fresh { IfOk result (λ nodes.
-        AreFresh D.is_kept D.history tree.entry.now weights.now disks.items nodes.items) }
-    ensures refused { IfErr result (IsNewFault D.is_kept D.history D.failures_of tree.entry.now
-        weights.now disks.items) }
+        AreFresh D.Disk tree.entry.now weights.now disks.items nodes.items) }
+    ensures refused { IfErr result
+        (IsNewFault D.Disk tree.entry.now weights.now disks.items) }
 {
     let digest = tree.digest();
     let mut nodes = Vec::with_capacity(alloc, disks.len())?;
@@ -51,10 +51,9 @@ fn fresh_node<'a, D: Disk>(
 ) -> Result<Node<'a, D>, TurnFault>
     requires member { me < length weights.now }
     requires digest { digest.now ≡ tree_digest tree.now }
-    ensures node { IfOk result
-        (IsFresh D.is_kept D.history tree.entry.now weights.now me disk) }
-    ensures refused { IfErr result (IsOpeningFault D.is_kept D.history D.failures_of
-        tree.entry.now weights.now me disk) }
+    ensures node { IfOk result (IsFresh D.Disk tree.entry.now weights.now me disk) }
+    ensures refused { IfErr result
+        (IsOpeningFault D.Disk tree.entry.now weights.now me disk) }
 {
     match Node::open_with_digest(alloc, disk, tree, digest, weights, me) {
         Ok(node) => {

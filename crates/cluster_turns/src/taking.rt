@@ -84,12 +84,12 @@ pub(crate) fn take<D: Disk, P: Port>(
         ≡ true }
     requires below { EachFailedBelow nodes.old.items pending.old unfailed.old }
     ensures below { EachFailedBelow nodes.new.items pending.new unfailed.new }
-    ensures taken { IsTakenAs D.is_kept D.history D.failures_of P.offered
+    ensures taken { IsTakenAs D.Disk P.Port
         (as_turning nodes.old.items sent.old events.old.items pending.old port.old)
         (as_turning nodes.new.items sent.new events.new.items pending.new port.new)
         chosen result }
     ensures given { GoesOnBy [] (P.given port.old) (P.given port.new) }
-    ensures calls { IsTakenByCalls D.is_kept D.history D.failures_of P.does
+    ensures calls { IsTakenByCalls D.Disk P.Port
         (as_turning nodes.old.items sent.old events.old.items pending.old port.old)
         (as_turning nodes.new.items sent.new events.new.items pending.new port.new)
         chosen result }
@@ -246,12 +246,11 @@ fn finish<D: Disk, P: Port>(
     ready: PreparedStep,
 ) -> Result<(), NodeFault>
     requires present { IsReadyFor node.old.node ready }
-    ensures taken { OnOk result (HasTaken D.is_kept D.history node.old node.new ready) }
+    ensures taken { OnOk result (HasTaken D.Disk node.old node.new ready) }
     ensures offered { OnOk result (GoesOnBy
         (parcels_from number (datagrams_to (sends_in ready.step)))
         (P.offered port.old) (P.offered port.new)) }
-    ensures refused { IfErr result
-        (HasNotTaken D.is_kept D.history D.failures_of node.old node.new ready) }
+    ensures refused { IfErr result (HasNotTaken D.Disk node.old node.new ready) }
     ensures silent { OnErr result (GoesOnBy [] (P.offered port.old) (P.offered port.new)) }
     ensures given { GoesOnBy [] (P.given port.old) (P.given port.new) }
     ensures calls { OnOk result (WasOffered P.does port.old

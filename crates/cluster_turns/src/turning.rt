@@ -33,9 +33,9 @@ impl<'a, D: Disk, P: Port> Cluster<'a, D, P> {
         // The choice. As far as the port records its receives, it was asked once, unless a job
         // waited for its answer.
         ensures chosen { IfOk result (λ o. IfSome o
-            (λ e. IsEventChosen P.given self.old self.new builds.now (event_view e))) }
+            (λ e. IsEventChosen P.Port self.old self.new builds.now (event_view e))) }
         ensures nothing { IfOk result (λ o. IfNone o
-            (IsChosen P.given self.old self.new builds.now None)) }
+            (IsChosen P.Port self.old self.new builds.now None)) }
 
         // What was chosen happened; or only the port changed; or there is a refusal.
         ensures happened { IfOk result (λ o. IfSome o
@@ -47,16 +47,16 @@ impl<'a, D: Disk, P: Port> Cluster<'a, D, P> {
         ensures kept { IfOk result (λ o. IfSome o
             (λ e. taken self.new ≡ taken self.old ++ event_view e ∷ [])) }
         ensures same { IfOk result (λ o. IfNone o (IsSame self.old self.new)) }
-        ensures refused { IfErr result (IsTurnFault P.given self.old self.new builds.now) }
+        ensures refused { IfErr result (IsTurnFault P.Port self.old self.new builds.now) }
         ensures left { IfErr result (IsLeftBy self.old self.new) }
 
         // What was offered; and all calls of the port, even if it doesn't record them.
-        ensures offers { Offers P.offered self.old self.new result }
-        ensures calls { HasCalled P.does self.old self.new builds.now result }
+        ensures offers { Offers P.Port self.old self.new result }
+        ensures calls { HasCalled P.Port self.old self.new builds.now result }
 
         // The disks at each moment, and what holds of the cluster whatever the result is.
-        ensures disks { LeavesDisks D.is_kept D.history D.failures_of self.old self.new result }
-        ensures on_logs { AreOnLogs D.is_kept D.history self.new }
+        ensures disks { LeavesDisks D.Disk self.old self.new result }
+        ensures on_logs { AreOnLogs D.Disk self.new }
         ensures fixed { (self.new.division ≡ self.old.division)
             × (self.new.weights ≡ self.old.weights) }
         ensures headline { HasHeadline self.new }
@@ -91,11 +91,11 @@ fn take_turn<D: Disk, P: Port>(
     requires known { NoneIsForeign nodes.old.items sent.old }
     requires below { EachFailedBelow nodes.old.items pending.old unfailed.old }
     ensures below { EachFailedBelow nodes.new.items pending.new unfailed.new }
-    ensures turn { IsTurn D.is_kept D.history D.failures_of P.given P.offered
+    ensures turn { IsTurn D.Disk P.Port
         (as_turning nodes.old.items sent.old events.old.items pending.old port.old)
         (as_turning nodes.new.items sent.new events.new.items pending.new port.new)
         builds.now result }
-    ensures calls { IsTurnByCalls D.is_kept D.history D.failures_of P.does
+    ensures calls { IsTurnByCalls D.Disk P.Port
         (as_turning nodes.old.items sent.old events.old.items pending.old port.old)
         (as_turning nodes.new.items sent.new events.new.items pending.new port.new)
         builds.now result }

@@ -5,13 +5,12 @@ use Rattle.turn_rules.specs.declared.fault.TurnFault.TheVariants as refused
 use Rattle.protocol.specs.Events.{Event, StopIn, event_view, node_of}
 use Rattle.protocol.specs.declared.event.Event as declared
 use Rattle.protocol.specs.declared.event.Left.TheVariants as left
-use Rattle.datagram_ports.specs.Calls.{Call}
-use Rattle.datagram_ports.specs.Kept.{Arrived}
 use Rattle.protocol.specs.Given.{Given}
 use Rattle.cluster_turns.specs.Calls.{HasCalled}
 use Rattle.cluster_turns.specs.Faults.{IsLeftBy, IsTurnFault}
 use Rattle.cluster_turns.specs.State.{ClusterState, taken}
 use Rattle.cluster_turns.specs.Turn.{HasHappened, IsSame, KeepsWith, OthersStay}
+use Rattle.datagram_ports.specs.declared.port.Port.{Ghosts as Port}
 
 -- what a turn returns
 abbrev pub Answer : Type 0
@@ -20,35 +19,34 @@ Answer = Result (Option declared.Event) TurnFault
 -- A turn of the cluster with this answer. By its port's calls, what it did was the choice. What was
 -- chosen happened, or everything is unchanged, or there is a refusal, with the state that it
 -- leaves.
-pub record IsTurn {D P : Type 0} (given : P → Option (List Arrived)) (does : P → Call → P → Type 0)
-    (old new : ClusterState D P) (builds : Given) (answer : Answer) : Type 0 where
-  pub calls : HasCalled does old new builds answer
+pub record IsTurn {D P : Type 0} (port : Port P) (old new : ClusterState D P) (builds : Given)
+    (answer : Answer) : Type 0 where
+  pub calls : HasCalled port old new builds answer
   pub happened : IfOk answer (λ o. IfSome o (λ e. HasHappened old new (event_view e)))
   pub kept : IfOk answer (λ o. IfSome o (λ e. taken new ≡ taken old ++ event_view e ∷ []))
   pub others : IfOk answer (λ o. IfSome o (λ e. OthersStay old new (node_of (event_view e))))
   pub pending : IfOk answer (λ o. IfSome o (λ e. KeepsWith old new (event_view e)))
   pub same : IfOk answer (λ o. IfNone o (IsSame old new))
-  pub refused : IfErr answer (IsTurnFault given old new builds)
+  pub refused : IfErr answer (IsTurnFault port old new builds)
   pub left : IfErr answer (IsLeftBy old new)
   pub division : new.division ≡ old.division
   pub weights : new.weights ≡ old.weights
 
 -- Turns with these answers lead from one state of the cluster to the other. Each begins in the
 -- state that the one before left.
-abbrev pub TurnsLead : {D P : Type 0} → (P → Option (List Arrived)) → (P → Call → P → Type 0)
-    → Given → ClusterState D P → List Answer → ClusterState D P → Type 0
-TurnsLead given does builds old [] new = new ≡ old
-TurnsLead given does builds old (answer ∷ answers) new =
-    (between : _) × IsTurn given does old between builds answer
-    × TurnsLead given does builds between answers new
+abbrev pub TurnsLead : {D P : Type 0} → Port P → Given → ClusterState D P → List Answer
+    → ClusterState D P → Type 0
+TurnsLead port builds old [] new = new ≡ old
+TurnsLead port builds old (answer ∷ answers) new =
+    (between : _) × IsTurn port old between builds answer
+    × TurnsLead port builds between answers new
 
 -- Exactly this number of turns led from one state to the other.
-pub record HasRun {D P : Type 0} (given : P → Option (List Arrived))
-    (does : P → Call → P → Type 0) (builds : Given) (old new : ClusterState D P) (turns : ℕ)
-    : Type 0 where
+pub record HasRun {D P : Type 0} (port : Port P) (builds : Given) (old new : ClusterState D P)
+    (turns : ℕ) : Type 0 where
   pub answers : List Answer
   pub count : length answers ≡ turns
-  pub led : TurnsLead given does builds old answers new
+  pub led : TurnsLead port builds old answers new
 
 -- ---- what is known of a run after the cluster is gone
 
@@ -77,7 +75,7 @@ AreEventsOfTurns turns events =
     (answers : List Answer) × (length answers ≡ turns) × AreEventsOf answers events
 
 -- The cluster's events after this number of turns.
-abbrev pub HasRunTo : {D P : Type 0} → (P → Option (List Arrived)) → (P → Call → P → Type 0)
-    → Given → ClusterState D P → ℕ → List declared.Event → Type 0
-HasRunTo {D} {P} given does builds old turns events =
-    (last : ClusterState D P) × HasRun given does builds old last turns × (events ≡ last.events)
+abbrev pub HasRunTo : {D P : Type 0} → Port P → Given → ClusterState D P → ℕ → List declared.Event
+    → Type 0
+HasRunTo {D} {P} port builds old turns events =
+    (last : ClusterState D P) × HasRun port builds old last turns × (events ≡ last.events)

@@ -101,8 +101,8 @@ fn after<D: Disk, P: Port, E: Write>(
     requires each { length cluster.weights ≡ files.now.members }
     ensures shown { IfOk result (λ r. IsShown cluster.entry.division cluster.entry.weights
         (map event_view r.1.items) r.0.items) }
-    ensures ran { IfOk result (λ r. HasRunTo P.given P.does builds.now cluster.entry
-        files.now.turns r.1.items) }
+    ensures ran { IfOk result (λ r.
+        HasRunTo P.Port builds.now cluster.entry files.now.turns r.1.items) }
     ensures events { IfOk result (λ r. cluster.entry.events ≡ []
         → AreEventsOfTurns files.now.turns (map event_view r.1.items)) }
 {

@@ -27,7 +27,7 @@ pub fn run<D: Disk, P: Port, E: Write>(
     members: u8,
     err: &mut E,
 )
-    ensures ran { HasRun P.given P.does builds.now cluster.old cluster.new turns }
+    ensures ran { HasRun P.Port builds.now cluster.old cluster.new turns }
     ensures fixed { (cluster.new.division ≡ cluster.old.division)
         × (cluster.new.weights ≡ cluster.old.weights) }
 {
@@ -44,8 +44,7 @@ fn take_turn<D: Disk, P: Port, E: Write>(
     builds: &Packages,
     err: &mut E,
 )
-    ensures { (answer : Answer)
-        × IsTurn P.given P.does cluster.old cluster.new builds.now answer }
+    ensures { (answer : Answer) × IsTurn P.Port cluster.old cluster.new builds.now answer }
 {
     let answer = cluster.turn(builds);
     tell(answer, err);

@@ -77,23 +77,30 @@ IsSameButAsked old new =
       asked_at = new.asked_at;
     }
 
+-- the old desk, with what others said of units to the new one
+abbrev pub with_heard : Desk → Desk → Desk
+with_heard old new =
+    record old {
+      failed_elsewhere = new.failed_elsewhere;
+      named = new.named;
+      given_back = new.given_back;
+    }
+
+-- the old desk, with the new one's last question
+abbrev pub with_asked : Desk → Desk → Desk
+with_asked old new = record old { next = new.next; last = new.last; asked_at = new.asked_at }
+
 -- All but what is out, what failed with its marks and notices, what was returned, what others said
 -- of units, and the questions stays.
 abbrev pub IsSameButTaken : Desk → Desk → Type 0
 IsSameButTaken old new =
-    new ≡ record old {
+    new ≡ record (with_heard (with_asked old new) new) {
       out = new.out;
       failed = new.failed;
       unwritten = new.unwritten;
-      failed_elsewhere = new.failed_elsewhere;
       notices = new.notices;
       returned = new.returned;
-      named = new.named;
-      given_back = new.given_back;
       pressing = new.pressing;
-      next = new.next;
-      last = new.last;
-      asked_at = new.asked_at;
     }
 
 -- All but what is out, whether the desk catches up or resumes, for what is to be asked at once, and

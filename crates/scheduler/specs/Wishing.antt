@@ -157,8 +157,8 @@ has_rounds s u = nat_lt u (length s.division.units) && not (is_spent s u)
 
 -- ---- which units are to be claimed
 
--- Above which round a unit is claimed at least. A unit that others may have claimed before the node's
--- start begins at round 1, any other unit at round 2. So a node that starts late gets a nay.
+-- Above which round a unit is claimed at least. A unit that others may have claimed before the
+-- node's start begins at round 1, any other unit at round 2. So a node that starts late gets a nay.
 abbrev pub least_above : Bool → ℕ
 least_above true = 0
 least_above false = 1

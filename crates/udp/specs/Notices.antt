@@ -53,6 +53,7 @@ is_heard_of key (Some listing) came notice =
     is_vouched_for key came (notice_text listing.digest notice)
     && nat_lt notice.unit listing.units
 
+-- whether the port may hand the notice over: it received it, about its listing
 abbrev pub is_heard : NoticesState → Notice → Bool
 is_heard s notice = is_heard_of s.key s.listing s.came notice
 

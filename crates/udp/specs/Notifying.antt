@@ -21,6 +21,7 @@ pub record Outgoing : Type 0 where
   pub waiting : List (Waiting Way)
   pub tallies : List Tally
 
+-- what of the port's state notices change
 abbrev pub outgoing : {C : Type 0} → UdpPort C → Outgoing
 outgoing p = record { waiting = p.leaving.waiting.items; tallies = p.tallies.members.items }
 
@@ -64,8 +65,8 @@ IsOfNotice key (Some listing) text =
     (notice : Notice) × (text ≡ came_as key (notice_text listing.digest notice))
 
 -- Nothing happened to the port but that notices were sent and taken: it is the same port, with the
--- same received datagrams, grants, numbers and wait. What was queued still is, and behind it are
--- texts of notices. No notice was read.
+-- same received datagrams, grants, numbers and wait. What was queued still is, and texts of
+-- notices come after it. No notice was read.
 pub record HasNotified {C : Type 0} (old new : UdpPort C) : Type 0 where
   pub same : IsSamePort old new
   pub inbox : new.inbox ≡ old.inbox

@@ -119,6 +119,8 @@ class Build:
         # why it is ended: the reason of its failure, or why nobody waits for it
         self.failed, self.dropped = "", ""
         self.is_told_stuck, self.end_due = False, 0.0
+        # how many pauses after failures there had been when it began
+        self.pauses = 0
         # how much it printed, since when it is that, and how much is before that in the log
         self.printed, self.silent_since, self.header = -1, time.monotonic(), 0
         # what was made, once it was looked at, and the text to hand in

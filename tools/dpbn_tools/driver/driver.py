@@ -14,6 +14,7 @@ from dpbn_tools.driver.build_steps import BuildSteps, Changed
 from dpbn_tools.driver.buildlogs import BuildLogs
 from dpbn_tools.driver.changes import Changes
 from dpbn_tools.driver.endings import Endings
+from dpbn_tools.driver.failures import Failures
 from dpbn_tools.driver.fetches import Fetches
 from dpbn_tools.driver.health import Health
 from dpbn_tools.driver.held import Held
@@ -63,7 +64,8 @@ class Driver:
         self.listed = Listed(asked.listing) if asked.listing else None
         self.limits = Limits({word: getattr(asked, word.replace("-", "_")) for word in WORDS}, asked.limits)
         self.fetches = Fetches(self.store, asked.fetch, lambda: self.logs.common("fetch.log"), self.tasks, lines.tell)
-        self.health = Health(self.work, asked.ready, lambda: self.logs.common("ready.log"), lines.tell)
+        failures = Failures(asked.failures, self.held.members, lines.tell)
+        self.health = Health(self.work, asked.ready, lambda: self.logs.common("ready.log"), lines.tell, failures)
         self.reuse = Reuse(os.path.realpath(asked.reuse), asked.inputs, asked.reuse_by_name) if asked.reuse else None
         pushes = Pushes(self.store, asked.push, asked.copies, lambda: self.logs.common("push.log")) if asked.copies > 1 else None
         self.pushes = pushes
@@ -396,6 +398,7 @@ class Driver:
             return
         posted.earlier = Earlier.LOOKING
         build, needed = Build(posted.job, 0), posted.needed or []
+        build.pauses = self.health.failures.pauses
 
         def found(is_there: Optional[bool], error: Optional[Exception]) -> None:
             posted.earlier, posted.key = Earlier.NONE, build.key
@@ -414,7 +417,7 @@ class Driver:
         taken = {build.slot for build in self.builds if build.holds_place()}
         slot = next(number for number in range(len(taken) + 1) if number not in taken)
         build = Build(posted.job, slot)
-        build.needed, build.key = posted.needed or [], posted.key
+        build.needed, build.key, build.pauses = posted.needed or [], posted.key, self.health.failures.pauses
         self.builds.append(build)
 
         def laid(_: Optional[bool], error: Optional[Exception]) -> None:

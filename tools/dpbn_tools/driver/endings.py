@@ -5,7 +5,7 @@ import os
 import time
 from typing import Callable, Dict, List, Optional
 
-from dpbn_tools.driver.build import Build, State
+from dpbn_tools.driver.build import Build, Ended, State
 from dpbn_tools.driver.handin import Failed, large_in, size_of
 from dpbn_tools.driver.health import TEMPFAIL, Health
 from dpbn_tools.driver.build_steps import BuildSteps
@@ -47,8 +47,12 @@ class Endings:
         if build.dropped == ENDS and is_good:
             # it was over before it was asked to end
             build.dropped = ""
-        if build.dropped or build.failed or is_good:
-            return
+        if not (build.dropped or build.failed or is_good):
+            self.judge(build, ended)
+        self.count_failure(build)
+
+    def judge(self, build: Build, ended: Optional[Ended]) -> None:
+        """Finds out whether a build failed for a reason of this host."""
         if not ended:
             self.give_back(build, "its supervisor was killed" if build.group else "it was ended by somebody else")
         elif ended.how == "signal":
@@ -59,6 +63,12 @@ class Endings:
             self.give_back(build, f"status {TEMPFAIL}")
         else:
             build.failed, build.due = f"status {ended.number}", build.over + MOMENT
+
+    def count_failure(self, build: Build) -> None:
+        """Counts a build that failed before it is marked, so that nothing begins meanwhile if there were others. One that nobody waits
+        for counts as nothing."""
+        if build.failed and not build.dropped:
+            self.health.failures.failed(str(build.job), build.pauses, build.failed)
 
     def give_back(self, build: Build, why: str) -> None:
         """It ended for a reason of this host: nothing is marked, unless that happens to this unit alone again and again."""
@@ -85,7 +95,7 @@ class Endings:
             build.needed = self.steps.held.needed(build.job.built)
             build.due = time.monotonic() + (0 if build.needed is not None else 0.3)
         elif build.text is None:
-            self.step(build, lambda: self.steps.examine(build, self.limits), lambda: None)
+            self.step(build, lambda: self.steps.examine(build, self.limits), lambda: self.examined(build))
         elif self.is_pushed(build):
             build.awaits_push = False
             self.step(build, lambda: self.steps.hand_in(build), lambda: self.handed_in(build))
@@ -100,6 +110,7 @@ class Endings:
             build.is_busy = False
             if isinstance(error, Failed):
                 build.failed = str(error)
+                self.count_failure(build)
             elif error:
                 build.due = time.monotonic() + PATIENCE
                 text = str(error) if isinstance(error, OSError) else f"{type(error).__name__}: {error}"
@@ -108,6 +119,11 @@ class Endings:
                 then()
 
         self.tasks.start(work, over)
+
+    def examined(self, build: Build) -> None:
+        """It made what was asked for, so this host can build, however long its files wait for other hosts."""
+        if not build.is_reused and not build.dropped:
+            self.health.failures.succeeded()
 
     def is_pushed(self, build: Build) -> bool:
         """Whether as many stores have its large files as shall be."""

@@ -1,12 +1,14 @@
 """Whether this host can build. A build that ended with 75, or by a signal that the driver didn't send, failed for a reason of this host:
-its unit is tried again later, and after several in a row the host begins nothing until it is ready again."""
+its unit is tried again later, and after several in a row the host begins nothing until it is ready again. After failures in a row it
+pauses, see failures.py."""
 from __future__ import annotations
 
 import os
 import time
-from typing import Callable, Dict, List, Optional, Set
+from typing import Callable, Dict, List, Optional, Set, Tuple
 
 from dpbn_tools.driver.command import Command, helper, shell
+from dpbn_tools.driver.failures import Failures
 from dpbn_tools.driver.workfolder import WorkFolder
 
 # the status that says so: EX_TEMPFAIL of sysexits(3)
@@ -27,8 +29,9 @@ class Unit:
 class Health:
     """The ends of builds on this host, in a row."""
 
-    def __init__(self, work: WorkFolder, ready: Optional[str], log: Callable[[], str], tell: Callable[[str], None]) -> None:
-        self.work, self.ready, self.log, self.tell = work, ready, log, tell
+    def __init__(self, work: WorkFolder, ready: Optional[str], log: Callable[[], str], tell: Callable[[str], None],
+                 failures: Failures) -> None:
+        self.work, self.ready, self.log, self.tell, self.failures = work, ready, log, tell, failures
         self.minute, self.longest = float(MINUTE), float(LONGEST)
         self.units: Dict[str, Unit] = {}
         self.row: List[str] = []
@@ -40,7 +43,8 @@ class Health:
         self.is_trying = False
         # why it is away for another reason, as a full disk
         self.short, self.short_since = "", 0.0
-        self.written = ""
+        # which reasons the file has
+        self.written: Tuple[object, ...] = "", "", False
 
     # ---- what builds came to
 
@@ -90,7 +94,7 @@ class Health:
         self.tell(f"~ this host begins nothing {until}: builds of several units ended for a reason of this host, the last: {why}")
 
     def is_away(self) -> bool:
-        return bool(self.why)
+        return bool(self.why or self.failures.why)
 
     def most(self, places: int) -> int:
         """How many builds may run."""
@@ -98,6 +102,8 @@ class Health:
 
     def look(self) -> None:
         """Asks whether the host is ready, if it is time, and writes or removes the file that shows whether it is away."""
+        if self.failures.is_over():
+            self.tell_end(self.failures.end())
         now = time.monotonic()
         if self.asked and self.asked.poll():
             is_ready, self.asked = self.asked.has_succeeded(), None
@@ -115,11 +121,18 @@ class Health:
         self.show()
 
     def come_back(self) -> None:
-        self.tell(f"~ this host begins builds again, after {time.monotonic() - self.since:.0f} s")
         self.why = ""
+        self.tell_end(time.monotonic() - self.since)
         # what waits is tried now, since the host was the reason
         for unit in self.units.values():
             unit.due = 0.0
+
+    def tell_end(self, seconds: float) -> None:
+        """Prints that a reason to begin nothing has gone after this time, and what others there are."""
+        stopped = f"{self.work.path}/stop is there" if self.work.is_stopped() else ""
+        others = "; ".join(filter(None, (*self.reasons(), stopped)))
+        what = f"begins nothing still: {others}" if others else f"begins builds again, after {seconds:.0f} s"
+        self.tell(f"~ this host {what}")
 
     def set_short(self, why: str) -> None:
         """Says that nothing can begin for another reason. After a minute the host is away for that, too."""
@@ -127,15 +140,22 @@ class Health:
             self.short_since = time.monotonic()
         self.short = why
 
-    def show(self) -> None:
+    def reasons(self) -> Tuple[str, str, str]:
+        """Why the host is away: for the builds that it gave back, for those that failed, and for another reason."""
         is_short = self.short and time.monotonic() >= self.short_since + self.minute
-        why = self.why or (self.short if is_short else "")
-        if bool(why) != bool(self.written):
-            if why:
-                self.work.set_away(why)
+        return self.why, self.failures.why, self.short if is_short else ""
+
+    def show(self) -> None:
+        """Has the file say why the host is away."""
+        reasons = self.reasons()
+        # how many bytes of a full disk are free changes all the time
+        wanted = *reasons[:2], bool(reasons[2])
+        if wanted != self.written:
+            if any(reasons):
+                self.work.set_away("; ".join(filter(None, reasons)))
             else:
                 self.work.end_away()
-            self.written = why
+            self.written = wanted
 
     def end(self) -> None:
         if self.asked:

@@ -22,6 +22,8 @@ def parser() -> argparse.ArgumentParser:
     limits(words)
     words.add_argument("--grace", metavar="SECONDS", type=number(0, 3600), default=2, help="between SIGTERM and SIGKILL; 2")
     words.add_argument("--ready", metavar="COMMAND", help="ends with 0 if this host can build")
+    words.add_argument("--failures", metavar="N", type=number(0, 1000), default=3,
+                       help="after how many failures in a row this host pauses, 0 for never; 3")
     words.add_argument("--reuse", metavar="DIR", help="has builds of earlier runs")
     words.add_argument("--inputs", metavar="COMMAND", help="prints what goes into the unit PKGPATH beside packages; for --reuse")
     words.add_argument("--reuse-by-name", action="store_true", help="packages with the same names count as the same for --reuse")

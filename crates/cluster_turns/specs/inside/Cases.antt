@@ -12,7 +12,7 @@ use Rattle.node.specs.Step.{Comes, Does}
 use Rattle.node.specs.declared.fault.NodeFault.{NodeFault}
 use Rattle.turn_rules.specs.Calls.{came_by}
 use Rattle.turn_rules.specs.declared.caused_step.CausedStep.{CausedStep}
-use Rattle.datagram_ports.specs.Calls.{Call, Received, WentThrough}
+use Rattle.datagram_ports.specs.Calls.{Received, WentThrough}
 use Rattle.datagram_ports.specs.Kept.{Arrived}
 use Rattle.datagram_ports.specs.declared.fault.PortFault.{PortFault}
 use Rattle.protocol.specs.Given.{Given}
@@ -21,6 +21,7 @@ use Rattle.cluster_turns.specs.Choosing.{IsChosenAs, IsPartAt, RefusesAt}
 use Rattle.cluster_turns.specs.Choice.{IsFirstOwn, IsOwnIf}
 use Rattle.cluster_turns.specs.Here.{here_in}
 use Rattle.cluster_turns.specs.declared.chosen.Chosen.{Chosen as PreparedStep}
+use Rattle.datagram_ports.specs.declared.port.Port.{Ghosts as Port}
 
 -- ---- (1) a job
 
@@ -39,10 +40,10 @@ abbrev pub arrived : Option (ℕ × Vec ℕ Global) → Arrived
 arrived = option_map (λ d. (d.0, d.1.items))
 
 -- The port answered one receive, which returned this, and no other calls.
-abbrev pub WasReceived : {P : Type 0} → (P → Call → P → Type 0) → P → Arrived → P → Type 0
-WasReceived does old came new =
+abbrev pub WasReceived : {P : Type 0} → Port P → P → Arrived → P → Type 0
+WasReceived port old came new =
     (answer : Result Arrived PortFault) × (came ≡ came_by answer)
-    × WentThrough does old (Received answer ∷ []) new
+    × WentThrough port.does old (Received answer ∷ []) new
 
 -- What a node takes was sent.
 abbrev pub WasSent : {D : Type 0} → List (LoggedNode D) → List Text → Arrived → Type 0

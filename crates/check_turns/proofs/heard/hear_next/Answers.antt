@@ -14,7 +14,7 @@ returns-in-Some g c =
     let happened = rw c.in-Some.is at c.in_ok-event.ensures.happened in
     let kept = rw c.in-Some.is at c.in_ok-event.ensures.kept in
     record {
-      heard = hears_next g.P.Port.given old mid new c.args.first.now c.args.second.now
+      heard = hears_next g.P.Port old mid new c.args.first.now c.args.second.now
           c.in-Some.event e.fixed.0 e.fixed.1 chosen happened kept c.turn-next.result f.chosen
           f.nothing f.refused;
       idle = tt;
@@ -28,6 +28,6 @@ returns-in-None g c =
     let arm = c.in_ok-event.ensures in
     record {
       heard = tt;
-      idle = if_nothing old mid e.fixed.1 e.headline.world.0 e.headline.world.1 g.P.Port.given c.args.first.now
-          c.in_ok-event.field-0 arm.nothing arm.same (ap is_some c.in-None.is);
+      idle = if_nothing old mid e.fixed.1 e.headline.world.0 e.headline.world.1 g.P.Port
+          c.args.first.now c.in_ok-event.field-0 arm.nothing arm.same (ap is_some c.in-None.is);
     }

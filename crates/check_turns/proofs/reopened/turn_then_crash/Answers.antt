@@ -1,13 +1,11 @@
 use Rattle.std.proofs.Common.{◌≡◌, ◌<◌, ◌∙◌, Ok, ap, arith, length, refl, slice_index_or, subst}
-use Rattle.std.specs.Prelude.{⊤}
 use Rattle.node.specs.OnLog.{identity_of, texts_of}
-use Rattle.stable_record.specs.Failing.{history_of}
 use Rattle.stable_record.specs.History.{History, seen}
 use Rattle.stable_record.specs.InMemory.{mem_history}
 use Rattle.stable_record.specs.Memory.{left_file}
 use Rattle.stable_record.specs.Opening.{Opens}
 use Rattle.stable_record.specs.declared.fault_disk.FaultDisk.{FaultDisk}
-use Rattle.check_turns.proofs.Crashing.{left_in_memory}
+use Rattle.check_turns.proofs.Crashing.{fault_disk, left_in_memory}
 use Rattle.check_turns.proofs.Reopening.{across, fell}
 use Rattle.check_turns.proofs.reopened.turn_then_crash.Goals as goal
 
@@ -16,7 +14,7 @@ returns-in-Ok g c =
     let old = c.args.cluster in
     let new = c.turn.new.self in
     let arm = c.in-Err-Down in
-    let down = fell g.P.Port.given (λ _. ⊤) history_of old new c.args.builds.now arm.field-0
+    let down = fell g.P.Port fault_disk old new c.args.builds.now arm.field-0
     arm.number arm.number arm.field-0-is refl arm.ensures.refused arm.ensures.disks.any_moment in
     let w = c.events-events.ensures.history in
     let inner = c.into_inner.result in
@@ -30,7 +28,7 @@ returns-in-Ok g c =
     c.args.left c.crash-disk.ensures.possible in
     let m = c.in-Ok.node.node in (
       new,
-      across (λ _. ⊤) history_of old new down.0 arm.number down.1 down.2
+      across fault_disk old new down.0 arm.number down.1 down.2
           c.events_lead_to_later_worlds.ensures c.events-events.ensures.on_logs w.0 w.1 file gone
           c.args.tree.now c.args.weights.now c.requires.tree c.requires.weights
           c.in-Ok.ensures.one_answer m c.in-Ok.ensures.node

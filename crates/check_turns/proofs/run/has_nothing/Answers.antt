@@ -9,13 +9,13 @@ returns-in-Ok g c =
     let old = c.args.cluster.now in
     let new = c.turn.new.self in
     let e = c.turn.ensures in
-    let given = g.P.Port.given in
+    let port = g.P.Port in
     let builds = c.args.builds.now in
     record {
-      goes_on = any_turn old new e.fixed.0 e.fixed.1 given builds c.turn.result e.happened e.kept
+      goes_on = any_turn old new e.fixed.0 e.fixed.1 port builds c.turn.result e.happened e.kept
           e.same e.refused e.left;
-      asked = in_a_turn given old new builds c.turn.result e.chosen e.nothing e.refused;
-      ended = λ none. if_nothing old new e.fixed.1 e.headline.world.0 e.headline.world.1 given builds
+      asked = in_a_turn port old new builds c.turn.result e.chosen e.nothing e.refused;
+      ended = λ none. if_nothing old new e.fixed.1 e.headline.world.0 e.headline.world.1 port builds
           c.in-Ok.event c.in-Ok.ensures.nothing c.in-Ok.ensures.same
           (c.is_none.ensures ∙ ap not none);
     }
@@ -25,11 +25,11 @@ returns-in-Err g c =
     let old = c.args.cluster.now in
     let new = c.turn.new.self in
     let e = c.turn.ensures in
-    let given = g.P.Port.given in
+    let port = g.P.Port in
     let builds = c.args.builds.now in
     record {
-      goes_on = any_turn old new e.fixed.0 e.fixed.1 given builds c.turn.result e.happened e.kept
+      goes_on = any_turn old new e.fixed.0 e.fixed.1 port builds c.turn.result e.happened e.kept
           e.same e.refused e.left;
-      asked = in_a_turn given old new builds c.turn.result e.chosen e.nothing e.refused;
+      asked = in_a_turn port old new builds c.turn.result e.chosen e.nothing e.refused;
       ended = λ none. absurd (let no : false ≡ true = none in cc);
     }

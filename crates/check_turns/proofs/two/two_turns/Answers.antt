@@ -11,13 +11,13 @@ returns-in_err-one g c =
     let p = err_from_is_err_and c.from_residual.result c.from_residual.ensures.1 in
     let old = c.args.cluster.now in
     let mid = c.turn.new.self in
-    let given = g.P.Port.given in
+    let port = g.P.Port in
     let e = c.turn.ensures in
     rw (p.1, p.2) (record {
       goes_on = tt;
       idle = tt;
-      asked = so_often given 1 2 old.port mid.port (omega arith)
-          (in_a_turn given old mid c.args.first.now c.turn.result e.chosen e.nothing e.refused);
+      asked = so_often port 1 2 old.port mid.port (omega arith)
+          (in_a_turn port old mid c.args.first.now c.turn.result e.chosen e.nothing e.refused);
       refused = inl c.in_err-one.ensures.refused;
     })
 
@@ -28,16 +28,16 @@ returns-in_err-other g c =
     let old = c.args.cluster.now in
     let mid = c.turn.new.self in
     let new = c.turn-2.new.self in
-    let given = g.P.Port.given in
+    let port = g.P.Port in
     let e = c.turn.ensures in
     let f = c.turn-2.ensures in
     let one = c.in_ok-one.ensures in
     rw (p.1, p.2) (record {
       goes_on = tt;
       idle = tt;
-      asked = and_then given 1 1 old.port mid.port new.port
-          (in_a_turn given old mid c.args.first.now c.turn.result e.chosen e.nothing e.refused)
-          (in_a_turn given mid new c.args.second.now c.turn-2.result f.chosen f.nothing f.refused);
+      asked = and_then port 1 1 old.port mid.port new.port
+          (in_a_turn port old mid c.args.first.now c.turn.result e.chosen e.nothing e.refused)
+          (in_a_turn port mid new c.args.second.now c.turn-2.result f.chosen f.nothing f.refused);
       refused = inr (
         mid,
         c.in_ok-one.one,
@@ -51,7 +51,7 @@ returns g c =
     let old = c.args.cluster.now in
     let mid = c.turn.new.self in
     let new = c.turn-2.new.self in
-    let given = g.P.Port.given in
+    let port = g.P.Port in
     let e = c.turn.ensures in
     let f = c.turn-2.ensures in
     let one = c.in_ok-one.ensures in
@@ -61,10 +61,10 @@ returns g c =
           (answered old mid e.fixed.0 e.fixed.1 c.in_ok-one.one one.happened one.kept one.same)
           (answered mid new f.fixed.0 f.fixed.1 c.in_ok-other.other other.happened other.kept
           other.same);
-      idle = λ none. if_nothing mid new f.fixed.1 f.headline.world.0 f.headline.world.1 given c.args.second.now
-          c.in_ok-other.other other.nothing other.same (ap is_some none);
-      asked = and_then given 1 1 old.port mid.port new.port
-          (in_a_turn given old mid c.args.first.now c.turn.result e.chosen e.nothing e.refused)
-          (in_a_turn given mid new c.args.second.now c.turn-2.result f.chosen f.nothing f.refused);
+      idle = λ none. if_nothing mid new f.fixed.1 f.headline.world.0 f.headline.world.1 port
+          c.args.second.now c.in_ok-other.other other.nothing other.same (ap is_some none);
+      asked = and_then port 1 1 old.port mid.port new.port
+          (in_a_turn port old mid c.args.first.now c.turn.result e.chosen e.nothing e.refused)
+          (in_a_turn port mid new c.args.second.now c.turn-2.result f.chosen f.nothing f.refused);
       refused = tt;
     }

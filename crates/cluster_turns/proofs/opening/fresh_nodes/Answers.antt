@@ -17,7 +17,7 @@ returns-in_err-fresh_node-clause-refused g c =
     let here : slice_get disks c.loop-disk.me ≡ Some disk =
     ap (slice_get disks) c.loop-disk.invariant.number
     ∙ slice_get_read disks (length disks) (length ys) disk refl turn.0 turn.1 in
-    let fails = fails_at g.D.Disk.is_kept g.D.Disk.history g.D.Disk.failures_of c.args.tree.now
+    let fails = fails_at g.D.Disk c.args.tree.now
     c.args.weights.now disks c.loop-disk.nodes.items c.loop-disk.invariant.fresh c.loop-disk.me
     (omega (arith, c.loop-disk.invariant.number, c.loop-disk.invariant.count)) disk here
     c.in_err-fresh_node.field-0.0 c.in_err-fresh_node.ensures.refused in
@@ -46,7 +46,7 @@ loop-disk-preserved g c =
         length_push ys disk,
       );
       number = omega (arith, c.loop-disk.invariant.number, length_push ys disk);
-      fresh = one_more g.D.Disk.is_kept g.D.Disk.history g.D.Disk.failures_of c.args.tree.now c.args.weights.now disks
+      fresh = one_more g.D.Disk c.args.tree.now c.args.weights.now disks
           c.loop-disk.nodes.items c.loop-disk.invariant.fresh c.loop-disk.me
           (omega (arith, c.loop-disk.invariant.number, c.loop-disk.invariant.count)) disk here n
           c.in_ok-fresh_node.ensures.node c.push.new.self.items more;

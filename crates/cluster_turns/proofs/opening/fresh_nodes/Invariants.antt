@@ -6,5 +6,5 @@ abbrev pub invariant-loop-disk : goal.invariant-loop-disk
 invariant-loop-disk g l = record {
   count : length l.nodes.items ≡ length l.yielded;
   number : l.me ≡ length l.yielded;
-  fresh : AreFresh g.D.Disk.is_kept g.D.Disk.history l.tree l.weights l.fn.disks.items l.nodes.items;
+  fresh : AreFresh g.D.Disk l.tree l.weights l.fn.disks.items l.nodes.items;
 }

@@ -47,7 +47,7 @@ pub returns-in_err-out-clause-refused : goal.returns-in_err-out-clause-refused
 returns-in_err-out-clause-refused g c =
     let p = err_from_is_err_and c.from_residual.result c.from_residual.ensures.1 in
     rw (p.1, p.2)
-    (not_taken g.D.Disk.is_kept g.D.Disk.history g.D.Disk.failures_of c.args.node.now
+    (not_taken g.D.Disk c.args.node.now
     c.finish.new.self c.args.ready c.in_err-out.ensures.kept c.in_err-out.field-0.0
     c.in_err-out.ensures.causes c.in_err-out.ensures.refused c.in_err-out.ensures.still_on_log
     (λ e. c.in_err-out.ensures.stops (ap (λ x. Err x) e))

@@ -4,12 +4,12 @@ use Rattle.std.proofs.Math.Facts.{Fits-of_lt}
 use Rattle.std.proofs.lemmas.Option.{slice_get_within}
 use Rattle.turn_rules.specs.Acts.{asked_by}
 use Rattle.node.specs.Step.{IsReadyFor, note_in}
-use Rattle.turn_rules.specs.Calls.{offered_in}
 use Rattle.turn_rules.specs.Unfailed.{notes_held}
 use Rattle.cluster_turns.proofs.Below.{lowered_each, member_stays, not_taken_each, taken_each}
 use Rattle.cluster_turns.proofs.Settling.{index_is, is_not_taken, is_taken}
 use Rattle.cluster_turns.specs.inside.Turning.{HasNotTaken, HasTaken, StopsAs}
 use Rattle.cluster_turns.proofs.taking.take.Goals as goal
+use Rattle.cluster_turns.specs.Calls.{calls_as_port}
 
 -- ---- the chosen node is one of at most nine
 
@@ -50,7 +50,7 @@ returns-in-Ok-finish-clause-taken g c =
     let here = index_is c.args.nodes.now.items c.args.chosen.node at.node c.index_mut.result.now
     at.stands c.index_mut.ensures.value in
     let there = ap (λ l. slice_get l c.args.chosen.node) c.as_slice.ensures.value ∙ at.stands in
-    is_taken g.D.Disk.is_kept g.D.Disk.history g.D.Disk.failures_of g.P.Port.offered
+    is_taken g.D.Disk g.P.Port
     (record {
       nodes = c.args.nodes.now.items;
       sent = c.args.sent.now;
@@ -67,7 +67,7 @@ returns-in-Ok-finish-clause-taken g c =
     })
     c.args.chosen at c.in-Ok.grown.recorded c.in-Ok.ensures.recorded c.host_fits.ensures
     (c.in-Ok.ensures.logged at.node there) c.finish.new.node refl
-    (subst (λ n. HasTaken g.D.Disk.is_kept g.D.Disk.history n c.finish.new.node
+    (subst (λ n. HasTaken g.D.Disk n c.finish.new.node
     c.args.chosen.readied.ready) (sym here) c.in-Ok-finish.ensures.taken)
     c.in-Ok.ensures.sent (c.in-Ok.ensures.pending at.node there)
     (c.keep.ensures.kept ∙ ap (λ l. l ++ c.in-Ok.grown.recorded.kept ∷ []) c.in-Ok.ensures.events)
@@ -79,7 +79,7 @@ returns-in-Err-finish-clause-taken g c =
     let here = index_is c.args.nodes.now.items c.args.chosen.node at.node c.index_mut.result.now
     at.stands c.index_mut.ensures.value in
     let there = ap (λ l. slice_get l c.args.chosen.node) c.as_slice.ensures.value ∙ at.stands in
-    is_not_taken g.D.Disk.is_kept g.D.Disk.history g.D.Disk.failures_of g.P.Port.offered
+    is_not_taken g.D.Disk g.P.Port
     (record {
       nodes = c.args.nodes.now.items;
       sent = c.args.sent.now;
@@ -97,7 +97,7 @@ returns-in-Err-finish-clause-taken g c =
     c.args.chosen at c.in-Ok.grown.recorded c.in-Ok.ensures.recorded c.host_fits.ensures
     (c.in-Ok.ensures.logged at.node there) c.finish.new.node refl c.in-Err-finish.fault
     c.stopped.result
-    (subst (λ n. HasNotTaken g.D.Disk.is_kept g.D.Disk.history g.D.Disk.failures_of n
+    (subst (λ n. HasNotTaken g.D.Disk n
     c.finish.new.node c.args.chosen.readied.ready c.in-Err-finish.fault) (sym here)
     c.in-Err-finish.ensures.refused)
     (subst (λ l. StopsAs c.args.chosen.node c.in-Ok.grown.recorded.stop l
@@ -119,7 +119,7 @@ returns-in-Ok-finish-clause-calls g c =
       offered = offered.0;
       went = offered.2;
       so = λ received.
-          is_taken g.D.Disk.is_kept g.D.Disk.history g.D.Disk.failures_of offered_in
+          is_taken g.D.Disk calls_as_port
           (record {
             nodes = c.args.nodes.now.items;
             sent = c.args.sent.now;
@@ -136,7 +136,7 @@ returns-in-Ok-finish-clause-calls g c =
           })
           c.args.chosen at c.in-Ok.grown.recorded c.in-Ok.ensures.recorded c.host_fits.ensures
           (c.in-Ok.ensures.logged at.node there) c.finish.new.node refl
-          (subst (λ n. HasTaken g.D.Disk.is_kept g.D.Disk.history n c.finish.new.node
+          (subst (λ n. HasTaken g.D.Disk n c.finish.new.node
           c.args.chosen.readied.ready) (sym here) c.in-Ok-finish.ensures.taken)
           c.in-Ok.ensures.sent (c.in-Ok.ensures.pending at.node there)
           (c.keep.ensures.kept
@@ -154,7 +154,7 @@ returns-in-Err-finish-clause-calls g c =
       offered = [];
       went = c.in-Err-finish.ensures.uncalled;
       so = λ received.
-          is_not_taken g.D.Disk.is_kept g.D.Disk.history g.D.Disk.failures_of offered_in
+          is_not_taken g.D.Disk calls_as_port
           (record {
             nodes = c.args.nodes.now.items;
             sent = c.args.sent.now;
@@ -172,7 +172,7 @@ returns-in-Err-finish-clause-calls g c =
           c.args.chosen at c.in-Ok.grown.recorded c.in-Ok.ensures.recorded c.host_fits.ensures
           (c.in-Ok.ensures.logged at.node there) c.finish.new.node refl c.in-Err-finish.fault
           c.stopped.result
-          (subst (λ n. HasNotTaken g.D.Disk.is_kept g.D.Disk.history g.D.Disk.failures_of n
+          (subst (λ n. HasNotTaken g.D.Disk n
           c.finish.new.node c.args.chosen.readied.ready c.in-Err-finish.fault) (sym here)
           c.in-Err-finish.ensures.refused)
           (subst (λ l. StopsAs c.args.chosen.node c.in-Ok.grown.recorded.stop l
@@ -206,7 +206,7 @@ returns-in-Ok-finish-clause-below g c =
     let at = c.requires.readied in
     let here = index_is nodes k at.node c.index_mut.result.now at.stands c.index_mut.ensures.value in
     let there = ap (λ l. slice_get l k) c.as_slice.ensures.value ∙ at.stands in
-    let took = subst (λ n. HasTaken g.D.Disk.is_kept g.D.Disk.history n c.finish.new.node ready)
+    let took = subst (λ n. HasTaken g.D.Disk n c.finish.new.node ready)
     (sym here) c.in-Ok-finish.ensures.taken in
     taken_each nodes c.args.pending.now c.args.unfailed.now c.requires.below k at.node at.stands
     c.finish.new.node ready c.grown_for.new.pending (asked_by c.args.chosen.readied.act)
@@ -221,12 +221,12 @@ returns-in-Err-finish-clause-below g c =
     let ready = c.args.chosen.readied.ready in
     let at = c.requires.readied in
     let here = index_is nodes k at.node c.index_mut.result.now at.stands c.index_mut.ensures.value in
-    let left = subst (λ n. HasNotTaken g.D.Disk.is_kept g.D.Disk.history g.D.Disk.failures_of n
+    let left = subst (λ n. HasNotTaken g.D.Disk n
     c.finish.new.node ready c.in-Err-finish.fault) (sym here) c.in-Err-finish.ensures.refused in
     not_taken_each nodes c.args.pending.now c.args.unfailed.now c.requires.below k at.node at.stands
     c.finish.new.node c.put_back.new.self (notes_held (note_in ready.step))
     c.unfailed_after.result
-    (member_stays g.D.Disk.is_kept g.D.Disk.history g.D.Disk.failures_of at.node c.finish.new.node
+    (member_stays g.D.Disk at.node c.finish.new.node
     ready c.in-Err-finish.fault left)
     (c.put_back.ensures ∙ c.in-Ok.ensures.before.0) c.unfailed_after.ensures.value
 

@@ -2,13 +2,14 @@ use Rattle.std.proofs.Common.{[], None, Some, inl, map, refl, subst, sym}
 use Rattle.std.proofs.lemmas.Result.{err_from_is_err_and}
 use Rattle.cluster_turns.specs.Choosing.{HasChosen}
 use Rattle.cluster_turns.specs.Unfailed.{EachFailedBelow}
-use Rattle.turn_rules.specs.Calls.{came_by, given_in, no_calls, offered_in}
+use Rattle.turn_rules.specs.Calls.{came_by, no_calls}
 use Rattle.turn_rules.specs.Offered.{sends_of}
 use Rattle.datagram_ports.proofs.Calls.{WentThrough-append}
 use Rattle.datagram_ports.specs.Calls.{Received}
 use Rattle.cluster_turns.proofs.ByCalls.{receives_alone}
 use Rattle.cluster_turns.proofs.Settling.{goes_on, ready_as, turned, turned_not}
 use Rattle.cluster_turns.proofs.turning.take_turn.Goals as goal
+use Rattle.cluster_turns.specs.Calls.{calls_as_port}
 
 pub take-requires-clause-readied : goal.take-requires-clause-readied
 take-requires-clause-readied g c =
@@ -26,8 +27,7 @@ returns-in_err-event-in-Some-clause-turn g c =
     let p = err_from_is_err_and c.from_residual-in_err-event-in-Some.result
     c.from_residual-in_err-event-in-Some.ensures.1 in
     rw (p.1, p.2)
-    (turned_not g.D.Disk.is_kept g.D.Disk.history g.D.Disk.failures_of g.P.Port.given
-    g.P.Port.offered (record {
+    (turned_not g.D.Disk g.P.Port (record {
       nodes = c.choose.new.nodes.items;
       sent = c.args.sent.now;
       events = c.args.events.now.items;
@@ -50,8 +50,7 @@ returns-in_ok-event-in-Some-clause-turn g c =
     let made = subst (HasChosen c.choose.new.nodes.items c.args.sent.now c.args.pending.now
     c.args.builds.now (g.P.Port.given c.args.port.now) (g.P.Port.given c.choose.new.port))
     c.in-Some.is c.in_ok-chosen.ensures.chosen in
-    turned g.D.Disk.is_kept g.D.Disk.history g.D.Disk.failures_of g.P.Port.given
-    g.P.Port.offered (record {
+    turned g.D.Disk g.P.Port (record {
       nodes = c.choose.new.nodes.items;
       sent = c.args.sent.now;
       events = c.args.events.now.items;
@@ -83,14 +82,13 @@ returns-in_err-event-in-Some-clause-calls g c =
       calls = record { received = asked.received; offered = offered.offered };
       went = WentThrough-append g.P.Port.does c.args.port.now c.choose.new.port c.take.new.port
           (map Received asked.received) (sends_of offered.offered) asked.went offered.went;
-      so = turned_not g.D.Disk.is_kept g.D.Disk.history g.D.Disk.failures_of given_in
-          offered_in (record {
-            nodes = c.choose.new.nodes.items;
-            sent = c.args.sent.now;
-            events = c.args.events.now.items;
-            pending = c.args.pending.now;
-            port = record { received = asked.received; offered = [] };
-          })
+      so = turned_not g.D.Disk calls_as_port (record {
+        nodes = c.choose.new.nodes.items;
+        sent = c.args.sent.now;
+        events = c.args.events.now.items;
+        pending = c.args.pending.now;
+        port = record { received = asked.received; offered = [] };
+      })
           (record {
             nodes = c.take.new.nodes.items;
             sent = c.take.new.sent;
@@ -114,14 +112,13 @@ returns-in_ok-event-in-Some-clause-calls g c =
       calls = record { received = asked.received; offered = offered.offered };
       went = WentThrough-append g.P.Port.does c.args.port.now c.choose.new.port c.take.new.port
           (map Received asked.received) (sends_of offered.offered) asked.went offered.went;
-      so = turned g.D.Disk.is_kept g.D.Disk.history g.D.Disk.failures_of given_in
-          offered_in (record {
-            nodes = c.choose.new.nodes.items;
-            sent = c.args.sent.now;
-            events = c.args.events.now.items;
-            pending = c.args.pending.now;
-            port = record { received = asked.received; offered = [] };
-          })
+      so = turned g.D.Disk calls_as_port (record {
+        nodes = c.choose.new.nodes.items;
+        sent = c.args.sent.now;
+        events = c.args.events.now.items;
+        pending = c.args.pending.now;
+        port = record { received = asked.received; offered = [] };
+      })
           (record {
             nodes = c.take.new.nodes.items;
             sent = c.take.new.sent;

@@ -27,7 +27,7 @@ pub returns-clause-events : goal.returns-clause-events
 returns-clause-events g c none =
     let ran = c.run.ensures.ran in
     let old = c.args.cluster in
-    let all = events_of g.P.Port.given g.P.Port.does c.args.builds.now old c.run.new.cluster
+    let all = events_of g.P.Port c.args.builds.now old c.run.new.cluster
     ran.answers ran.led in
     let first : taken old ≡ [] = ap (map event_view) none in
     let are : map event_view c.into_events.result.items ≡ all.0 =

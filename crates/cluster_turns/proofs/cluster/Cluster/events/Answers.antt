@@ -8,7 +8,7 @@ use Rattle.cluster_turns.proofs.cluster.Cluster.events.Goals as goal
 
 pub returns-clause-on_logs : goal.returns-clause-on_logs
 returns-clause-on_logs g c =
-    subst (λ s. AreOnLogs g.D.Disk.is_kept g.D.Disk.history s) c.self.view_is c.self.invariant.1
+    subst (λ s. AreOnLogs g.D.Disk s) c.self.view_is c.self.invariant.1
 
 pub returns-clause-one_list : goal.returns-clause-one_list
 returns-clause-one_list g c = one_list c.args.self.now

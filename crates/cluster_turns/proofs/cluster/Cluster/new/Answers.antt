@@ -25,11 +25,11 @@ invariant_of-result g c =
       divided = c.len-count.ensures.division;
       weigh = c.as_slice-weights.ensures.are_weights;
     } in (
-      is_cluster g.D.Disk.is_kept g.D.Disk.history c.args.tree.now c.args.weights.now
+      is_cluster g.D.Disk c.args.tree.now c.args.weights.now
           c.args.disks.items i c.in_ok-units.ensures refl made c.copy.ensures
           (c.in_ok-nodes.ensures.count ∙ c.requires) c.in_ok-nodes.ensures.fresh c.new-2.ensures
           c.new-3.ensures.items c.new-4.ensures refl,
-      fresh_on_logs g.D.Disk.is_kept g.D.Disk.history c.args.tree.now c.args.weights.now
+      fresh_on_logs g.D.Disk c.args.tree.now c.args.weights.now
           c.args.disks.items (cluster_of i) c.in_ok-nodes.ensures.fresh,
     )
 
@@ -48,7 +48,7 @@ returns-clause-world g c =
       divided = c.len-count.ensures.division;
       weigh = c.as_slice-weights.ensures.are_weights;
     } in
-    starts g.D.Disk.is_kept g.D.Disk.history c.args.tree.now c.args.weights.now
+    starts g.D.Disk c.args.tree.now c.args.weights.now
     c.args.disks.items s c.in_ok-units.ensures made c.copy.ensures
     (c.in_ok-nodes.ensures.count ∙ c.requires) c.in_ok-nodes.ensures.fresh c.new-2.ensures
     c.new-3.ensures.items
@@ -59,6 +59,6 @@ returns-clause-on_logs g c k n at up kept =
 
 pub returns-clause-disks : goal.returns-clause-disks
 returns-clause-disks g c =
-    all_stand g.D.Disk.is_kept g.D.Disk.history g.D.Disk.failures_of c.args.tree.now
+    all_stand g.D.Disk c.args.tree.now
     c.args.weights.now c.args.disks.items c.in_ok-nodes.nodes.items c.in_ok-nodes.ensures.fresh
     c.in_ok-nodes.ensures.count

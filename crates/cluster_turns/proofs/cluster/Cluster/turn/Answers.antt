@@ -31,24 +31,22 @@ cluster_then g c = record {
 
 -- what the turn promises
 promised : (g : Over) (c : goal.After-take_turn g)
-    → Promises g.D.Disk.is_kept g.D.Disk.history g.D.Disk.failures_of g.P.Port.given
-    g.P.Port.offered c.args.self.now (cluster_then g c) c.args.builds.now c.take_turn.result
+    → Promises g.D.Disk g.P.Port c.args.self.now (cluster_then g c) c.args.builds.now
+    c.take_turn.result
 promised g c =
     let i = c.self.invariant.0 in
-    subst (λ old. Promises g.D.Disk.is_kept g.D.Disk.history g.D.Disk.failures_of g.P.Port.given
-    g.P.Port.offered old (cluster_then g c) c.args.builds.now c.take_turn.result) c.self.view_is
-    (promises g.D.Disk.is_kept g.D.Disk.history g.D.Disk.failures_of g.P.Port.given
-    g.P.Port.offered (cluster_of c.self.inside) (cluster_then g c) c.args.builds.now refl refl
-    i.count i.world i.is_world c.self.invariant.1 c.take_turn.result c.take_turn.ensures.turn)
+    subst (λ old. Promises g.D.Disk g.P.Port old (cluster_then g c) c.args.builds.now
+    c.take_turn.result) c.self.view_is
+    (promises g.D.Disk g.P.Port (cluster_of c.self.inside) (cluster_then g c) c.args.builds.now
+    refl refl i.count i.world i.is_world c.self.invariant.1 c.take_turn.result c.take_turn.ensures.turn)
 
 -- and what holds after it
 standing : (g : Over) (c : goal.After-take_turn g)
-    → StandsThen g.D.Disk.is_kept g.D.Disk.history (cluster_of c.self.inside) (cluster_then g c)
+    → StandsThen g.D.Disk (cluster_of c.self.inside) (cluster_then g c)
 standing g c =
     let i = c.self.invariant.0 in
-    stands_then g.D.Disk.is_kept g.D.Disk.history g.D.Disk.failures_of g.P.Port.given
-    g.P.Port.offered (cluster_of c.self.inside) (cluster_then g c) c.args.builds.now refl refl
-    i.count i.world i.is_world c.self.invariant.1 c.take_turn.result c.take_turn.ensures.turn
+    stands_then g.D.Disk g.P.Port (cluster_of c.self.inside) (cluster_then g c) c.args.builds.now
+    refl refl i.count i.world i.is_world c.self.invariant.1 c.take_turn.result c.take_turn.ensures.turn
 
 pub invariant_of-self : goal.invariant_of-self
 invariant_of-self g c =
@@ -97,11 +95,10 @@ returns-clause-left g c = (promised g c).leaves
 pub returns-clause-calls : goal.returns-clause-calls
 returns-clause-calls g c =
     let i = c.self.invariant.0 in
-    subst (λ old. HasCalled g.P.Port.does old (cluster_then g c) c.args.builds.now
-    c.take_turn.result) c.self.view_is
-    (has_called g.D.Disk.is_kept g.D.Disk.history g.D.Disk.failures_of g.P.Port.does
-    (cluster_of c.self.inside) (cluster_then g c) c.args.builds.now refl refl i.count i.world
-    i.is_world c.self.invariant.1 c.take_turn.result c.take_turn.ensures.calls)
+    subst (λ old. HasCalled g.P.Port old (cluster_then g c) c.args.builds.now c.take_turn.result)
+    c.self.view_is
+    (has_called g.D.Disk g.P.Port (cluster_of c.self.inside) (cluster_then g c) c.args.builds.now
+    refl refl i.count i.world i.is_world c.self.invariant.1 c.take_turn.result c.take_turn.ensures.calls)
 
 pub returns-clause-disks : goal.returns-clause-disks
 returns-clause-disks g c =
@@ -112,7 +109,7 @@ returns-clause-disks g c =
       device = p.device;
       untouched = p.untouched;
       nothing_touched = p.nothing_touched;
-      kept_before = subst (λ old. WereKept g.D.Disk.is_kept old (cluster_then g c)) c.self.view_is
+      kept_before = subst (λ old. WereKept g.D.Disk old (cluster_then g c)) c.self.view_is
           (standing g c).kept_before;
     }
 
