@@ -356,10 +356,12 @@ def stops(tally):
         with open(f"{node.work}/away", "w") as file:
             file.write("no power\n")
         other = node.post("c/d")
+        told = driver.tells(re.escape(f"~ nothing begins while {os.path.realpath(node.work)}/away is there, which this driver didn't write"))
         time.sleep(1)
         count = driver.begun()
+        stays = read(f"{node.work}/away") == "no power\n"
         os.unlink(f"{node.work}/away")
-        add(tally, "a host that is away", count == 1 and bool(node.take(other)), count, driver.lines())
+        add(tally, "a host that is away", told and stays and count == 1 and bool(node.take(other)), told, stays, count, driver.lines())
 
 
 def run_first(tally):

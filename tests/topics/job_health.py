@@ -134,26 +134,34 @@ def between(lines, first, last):
 
 
 def failures(tally):
-    """After three builds in a row that failed the host is away for 5 seconds, and after the next failure for 10. Nothing begins meanwhile,
-    each failure is marked once, and all else is built once builds succeed."""
+    """After three builds in a row that failed the host is away for 5 seconds. After a further failure it is for 10, if another host built
+    something meanwhile, and otherwise goes on. Nothing begins in a pause, each failure is marked once, and a success ends the row."""
     begins, again = "~ this host begins nothing for", "~ this host begins builds again, after"
-    why = "builds in a row failed, the last: a/p[0-9]{2}, status 1"
+    why = "builds in a row failed, the last: a/[pqr][0-9], status 1"
     with laid(f'[ -e "$TOP/up" ] || exit 1; {MAKE}', "-j", "2") as (node, driver):
-        names = {node.post(f"a/p{number:02}"): f"a/p{number:02}" for number in range(16)}
-        there = until(lambda: re.fullmatch(f"[0-9]+ {why}\n", text_in(f"{node.work}/away")))
-        add(tally, "failures in a row", driver.tells(f"{begins} 5 s: 3 {why}") and there, there, driver.lines())
+        units = [f"a/p{number}" for number in range(4)]
+        names = {node.post(unit): unit for unit in units}
+        add(tally, "failures in a row", driver.tells(f"{begins} 5 s: 3 {why}"), driver.lines())
         # what was about to begin has begun, at the other place than that of the third failure
         told = driver.tells(f"{again} ([5-9]|[0-9]{{2,}}) s") and between(driver.lines(), f"{begins} 5 s", again)
         begun = [line for line in told or () if line.startswith("> ")]
         add(tally, "the same, what begins in the pause", bool(told) and len(begun) <= 1, told, driver.lines())
-        add(tally, "the same, a failure after the pause", driver.tells(f"{begins} 10 s: [0-9]+ {why}"), driver.lines())
-        with open(f"{node.folder}/up", "w"):
-            ended = until(lambda: all(any(os.path.exists(f"{node.work}/{part}/{name}") for part in ("done", "failed")) for name in names))
-        marks = sorted(names[name] for name in os.listdir(f"{node.work}/failed"))
-        once = until(lambda: sorted(line.split(" ")[1] for line in driver.lines() if line.startswith("! ")) == marks and driver.begun() == 16)
-        add(tally, "the same, each is marked once", ended and once and 4 <= len(marks) < 16, marks, driver.lines())
+        names.update({node.post(unit): unit for unit in ("a/q0", "a/q1", "a/q2")})
+        marked = [bool(node.failed(name)) for name in names]
         gone = until(lambda: not os.path.exists(f"{node.work}/away"))
-        add(tally, "the same, once builds succeed", gone and len(os.listdir(f"{node.work}/done")) == 16 - len(marks), driver.lines())
+        paused = [line for line in driver.lines() if line.startswith(begins)]
+        add(tally, "the same, while nobody else builds", all(marked) and gone and len(paused) == 1, marked, driver.lines())
+        node.hold("x/other", {"x/other": []}, host=2)
+        names[node.post("a/r0")] = "a/r0"
+        there = until(lambda: re.fullmatch(f"[78] {why}\n", text_in(f"{node.work}/away")))
+        add(tally, "the same, once somebody else does", driver.tells(f"{begins} 10 s: [78] {why}") and there, there, driver.lines())
+        with open(f"{node.folder}/up", "w"):
+            made = [bool(node.take(node.post(unit))) for unit in ("a/s0", "a/s1")]
+        gone = until(lambda: not os.path.exists(f"{node.work}/away"))
+        add(tally, "the same, once builds succeed", all(made) and gone, made, driver.lines())
+        marks = sorted(names.get(name, name) for name in os.listdir(f"{node.work}/failed"))
+        failed = sorted(line.split(" ")[1] for line in driver.lines() if line.startswith("! "))
+        add(tally, "the same, each is marked once", sorted(names.values()) == marks == failed and driver.begun() == 10, marks, failed, driver.lines())
 
 
 def moment(tally):

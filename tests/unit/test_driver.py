@@ -307,6 +307,18 @@ def test_a_long_log_is_read_in_parts(tmp_path, monkeypatch):
     assert len(held.units) == 100 and looks > 50
 
 
+def test_what_others_built_is_counted(tmp_path):
+    """By units, of which each counts once; also if the log is read again."""
+    notes = [packages.note(4, f"a/p{host}", packages.build(packages.record(f"a/p{host}", "p-1", [], host=host))) for host in (0, 1, 1, 2)]
+    (tmp_path / "log").write_bytes(packages.log(notes, me=1))
+    held = Held(f"{tmp_path}/log")
+    for _ in range(2):
+        held.look()
+        assert (held.others, held.members()) == (2, 3)
+        held.reopen()
+        assert held.others == 0
+
+
 # ---- jobs, limits, logs, times
 
 @pytest.mark.parametrize("text", [b"", b"@unit a/b\n", b"\xff" * 100, b"@tree x\n"])
@@ -418,9 +430,10 @@ def health(tmp_path, monkeypatch):
     clock = [0.0]
     monkeypatch.setattr(healths.time, "monotonic", lambda: clock[0])
     told = []
-    members = [3]
-    it = Health(WorkFolder(f"{tmp_path}/work"), None, lambda: f"{tmp_path}/ready.log", told.append, Failures(3, lambda: members[0], told.append))
-    it.clock, it.told, it.members = clock, told, members
+    members, others = [3], [0]
+    failures = Failures(3, lambda: members[0], lambda: others[0], told.append)
+    it = Health(WorkFolder(f"{tmp_path}/work"), None, lambda: f"{tmp_path}/ready.log", told.append, failures)
+    it.clock, it.told, it.members, it.others = clock, told, members, others
     return it
 
 
@@ -517,6 +530,7 @@ def test_pauses_double_up_to_a_minute_until_a_build_succeeds(health):
     fail(health, "a/a", "a/b")
     waits = []
     for number in range(7):
+        health.others[0] += 1
         fail(health, f"b/p{number}")
         waits.append(health.failures.until - health.clock[0])
         passes(health, waits[-1])
@@ -544,8 +558,33 @@ def test_builds_that_ran_when_a_pause_began_start_none(health):
     passes(health, 5)
     fail(health, "m/n", "o/p", "q/r", pauses=0)
     assert not health.is_away()
+    health.others[0] += 1
     fail(health, "s/t")
-    assert health.is_away() and away_of(health) == "10 builds in a row failed, the last: s/t, status 1\n"
+    assert health.is_away() and away_of(health) == "4 builds in a row failed, the last: s/t, status 1\n"
+
+
+def test_a_further_pause_begins_only_if_others_built_something(health):
+    """Since the last one began: without that all hosts may fail at these units, and building goes on."""
+    health.others[0] = 7
+    fail(health, "a/b", "c/d", "e/f")
+    passes(health, 5)
+    fail(health, *(f"g/p{number}" for number in range(20)))
+    assert not health.is_away()
+    health.others[0] = 8
+    fail(health, "i/j")
+    assert health.failures.until - health.clock[0] == 10 and away_of(health) == "24 builds in a row failed, the last: i/j, status 1\n"
+    health.others[0] = 9
+    passes(health, 10)
+    fail(health, "k/l")
+    assert health.failures.until - health.clock[0] == 20
+    passes(health, 20)
+    # a log that was made anew has fewer
+    health.others[0] = 2
+    fail(health, "m/n")
+    assert not health.is_away()
+    health.failures.succeeded()
+    fail(health, "o/p", "q/r", "s/t")
+    assert health.failures.until - health.clock[0] == 5
 
 
 def test_a_success_ends_a_pause(health):
@@ -572,7 +611,7 @@ def test_a_lone_member_never_pauses(health, members):
 
 def test_how_many_failures_are_a_row(tmp_path):
     told = []
-    never, first = (Failures(most, lambda: 2, told.append) for most in (0, 1))
+    never, first = (Failures(most, lambda: 2, lambda: 0, told.append) for most in (0, 1))
     for number in range(50):
         never.failed(f"a/p{number}", 0, "status 1")
     assert not never.why and not never.units and not told
@@ -596,6 +635,35 @@ def test_the_file_stays_as_long_as_there_is_a_reason(health):
     assert away_of(health) == "3 bytes are free\n"
     health.set_short("")
     assert away_of(health) == ""
+
+
+def write_away(health, text):
+    with open(f"{health.work.path}/away", "w", encoding="ascii") as file:
+        file.write(text)
+
+
+def test_a_file_that_something_else_wrote_stays(health):
+    write_away(health, "no power\n")
+    assert health.is_others() and away_of(health) == "no power\n"
+    fail(health, "a/b", "c/d", "e/f")
+    assert away_of(health) == "no power\n"
+    os.unlink(f"{health.work.path}/away")
+    assert "3 builds in a row" in away_of(health) and not health.is_others()
+    passes(health, 5)
+    assert away_of(health) == ""
+    write_away(health, "no power\n")
+    assert health.is_others() and away_of(health) == "no power\n"
+
+
+def test_a_file_whose_folder_was_not_synced_is_the_drivers(health, monkeypatch):
+    fail(health, "a/b", "c/d", "e/f")
+    with monkeypatch.context() as patched:
+        patched.setattr(workfolder, "sync", lambda _: (_ for _ in ()).throw(OSError(5, "Input/output error")))
+        with pytest.raises(OSError):
+            health.look()
+    assert os.path.exists(f"{health.work.path}/away") and not health.is_others()
+    passes(health, 5)
+    assert away_of(health) == "" and not health.is_own
 
 
 def test_a_pause_ends_while_an_operator_drains_the_host(health):
@@ -639,6 +707,26 @@ def test_what_counts_as_a_failure(tmp_path):
         own.tasks.look()
     assert failures.why == "3 builds in a row failed, the last: a/less, it made no a/less" and not own.may_begin()
     assert "begins nothing for 5 s" in own.lines.last[-1]
+
+
+def test_a_build_knows_how_many_pauses_there_were(tmp_path, monkeypatch):
+    own, started = driver(tmp_path), []
+    monkeypatch.setattr(own.tasks, "start", lambda work, then: started.append(work))
+    own.health.failures.pauses = 4
+    own.begin(Posted(job()))
+    assert own.builds[0].pauses == 4
+
+
+def test_what_was_examined_counts_at_once(tmp_path, monkeypatch):
+    own, counted = driver(tmp_path), []
+    monkeypatch.setattr(own.steps, "examine", lambda *_: None)
+    monkeypatch.setattr(own.health.failures, "succeeded", lambda: counted.append(1))
+    build = Build(job(), 0)
+    build.needed = []
+    own.endings.go_on(build)
+    while own.tasks.running:
+        own.tasks.look()
+    assert counted == [1]
 
 
 def test_what_counts_as_a_success(tmp_path):

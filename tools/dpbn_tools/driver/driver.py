@@ -64,7 +64,7 @@ class Driver:
         self.listed = Listed(asked.listing) if asked.listing else None
         self.limits = Limits({word: getattr(asked, word.replace("-", "_")) for word in WORDS}, asked.limits)
         self.fetches = Fetches(self.store, asked.fetch, lambda: self.logs.common("fetch.log"), self.tasks, lines.tell)
-        failures = Failures(asked.failures, self.held.members, lines.tell)
+        failures = Failures(asked.failures, self.held.members, lambda: self.held.others, lines.tell)
         self.health = Health(self.work, asked.ready, lambda: self.logs.common("ready.log"), lines.tell, failures)
         self.reuse = Reuse(os.path.realpath(asked.reuse), asked.inputs, asked.reuse_by_name) if asked.reuse else None
         pushes = Pushes(self.store, asked.push, asked.copies, lambda: self.logs.common("push.log")) if asked.copies > 1 else None
@@ -311,6 +311,8 @@ class Driver:
                 self.lines.tell("~ nothing runs here any more")
             return False
         self.is_stopped = False
+        if self.health.is_others():
+            self.lines.tell_once(f"~ nothing begins while {self.work.path}/away is there, which this driver didn't write", "away")
         return not (self.health.is_away() or self.work.is_away())
 
     def has_room(self, posted: Posted) -> bool:

@@ -13,35 +13,44 @@ class Failures:
     """The builds that failed since one succeeded, and the pause after some of them. In a pause nothing begins, and the node gives back
     what hasn't begun; units that failed are marked all the same."""
 
-    def __init__(self, most: int, members: Callable[[], int], tell: Callable[[str], None]) -> None:
-        # how many different units fail before the first pause, with 0 for never; and how many members the log's header names
-        self.most, self.members, self.tell = most, members, tell
+    def __init__(self, most: int, members: Callable[[], int], others: Callable[[], int], tell: Callable[[str], None]) -> None:
+        # how many different units fail before the first pause, with 0 for never
+        self.most, self.tell = most, tell
+        # how many members the log's header names, and how many units that the log holds were built by others
+        self.members, self.others = members, others
         # the units that failed in this row since the last pause, and how many builds did in all of the row
         self.units: Set[str] = set()
         self.count = 0
         # how many pauses began, and how many of them in this row
         self.pauses, self.times = 0, 0
-        # why there is a pause, or nothing; since when and until when
+        # why there is a pause, or nothing; since when and until when; and what others had built when the last one began
         self.why, self.since, self.until = "", 0.0, 0.0
+        self.others_then = 0
 
     def failed(self, unit: str, pauses: int, why: str) -> None:
         """A build failed that began when there had been so many pauses."""
-        self.count += 1
         if not self.most or pauses < self.pauses:
             # that it ran when a pause began says nothing of the time after that
             return
+        self.count += 1
         self.units.add(unit)
-        # after a pause one failure is enough; and if there is no other member nobody else could build
-        if (self.times or len(self.units) >= self.most) and self.members() > 1:
+        if self.is_enough():
             what = f"{self.count} builds in a row failed, the last" if self.count > 1 else "a build failed"
             self.begin(f"{what}: {unit}, {why}".replace("\n", " "))
+
+    def is_enough(self) -> bool:
+        """Whether a pause begins. After the first one a failure is enough, if another host built something since that began: otherwise all
+        hosts may fail at these units, and would all wait."""
+        if self.members() < 2:
+            return False
+        return self.others() > self.others_then if self.times else len(self.units) >= self.most
 
     def begin(self, why: str) -> None:
         wait = min(FIRST * 2 ** self.times, LONGEST)
         self.times, self.pauses = self.times + 1, self.pauses + 1
         self.units.clear()
         self.why, self.since = why, time.monotonic()
-        self.until = self.since + wait
+        self.until, self.others_then = self.since + wait, self.others()
         self.tell(f"~ this host begins nothing for {wait} s: {why}")
 
     def succeeded(self) -> None:

@@ -43,8 +43,9 @@ class Health:
         self.is_trying = False
         # why it is away for another reason, as a full disk
         self.short, self.short_since = "", 0.0
-        # which reasons the file has
+        # which reasons the file has, and whether it may be this driver's
         self.written: Tuple[object, ...] = "", "", False
+        self.is_own = False
 
     # ---- what builds came to
 
@@ -146,16 +147,24 @@ class Health:
         return self.why, self.failures.why, self.short if is_short else ""
 
     def show(self) -> None:
-        """Has the file say why the host is away."""
+        """Has the file say why the host is away. One that this driver didn't write stays as it is."""
         reasons = self.reasons()
         # how many bytes of a full disk are free changes all the time
         wanted = *reasons[:2], bool(reasons[2])
-        if wanted != self.written:
-            if any(reasons):
-                self.work.set_away("; ".join(filter(None, reasons)))
-            else:
-                self.work.end_away()
-            self.written = wanted
+        if self.is_others():
+            return
+        if any(reasons) and wanted != self.written:
+            # it may be there also if the system refuses the rest
+            self.is_own = True
+            self.work.set_away("; ".join(filter(None, reasons)))
+        elif self.is_own and not any(reasons):
+            self.work.end_away()
+            self.is_own = False
+        self.written = wanted
+
+    def is_others(self) -> bool:
+        """Whether the file is there, and this driver didn't write it."""
+        return not self.is_own and self.work.is_away()
 
     def end(self) -> None:
         if self.asked:

@@ -27,6 +27,8 @@ class Held:
         self.units: Set[bytes] = set()
         # which hosts built something on a package, so that they had its files
         self.users: Dict[bytes, Set[int]] = {}
+        # how many units other hosts built
+        self.others = 0
         self.is_read = False
 
     def reopen(self) -> None:
@@ -58,6 +60,7 @@ class Held:
             taken += 1
             if note.unit not in self.units:
                 self.units.add(note.unit)
+                self.others += log.header is not None and int(note.records[0].host) != log.header.own
                 for record in note.records:
                     self.take(record)
         self.is_read = True
