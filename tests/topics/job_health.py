@@ -1,5 +1,5 @@
 """Builds that fail for a reason of the host: with 75, or by a signal that tools/build-jobs didn't send. The minutes of the driver are made
-short by a module that is loaded before it. And builds that fail in a row, so that the host pauses."""
+short by a module that is loaded before it. And builds that fail in a row, so that the host pauses, or just before their driver is ended."""
 import os
 import re
 import signal
@@ -11,22 +11,22 @@ from topics import packages
 from topics.played import LIMIT, MAKE, Driver as PlayedDriver, add, end_builds, has_text, laid, lines_of, node_alone, read, text_in, until
 from topics.tally import TOP
 
-# build-jobs with minutes of this many seconds
+# build-jobs with minutes and a moment of this many seconds
 SHORT = """import sys
 sys.path.insert(0, {top!r} + "/tools")
-from dpbn_tools.driver import health, main
-health.MINUTE, health.LONGEST = {minute}, {minute} * 30
+from dpbn_tools.driver import endings, health, main
+health.MINUTE, health.LONGEST, endings.MOMENT = {minute}, {minute} * 30, {moment}
 main.main()
 """
 
 
 class Driver:
-    """build-jobs with short minutes."""
+    """build-jobs with short minutes, and a moment of this many seconds before a failure is marked."""
 
-    def __init__(self, node, script, *words, minute=1.0):
+    def __init__(self, node, script, *words, minute=1.0, moment=0.25):
         self.out = f"{node.folder}/driver.{time.monotonic_ns()}"
         with open(self.out, "xb") as out:
-            self.process = subprocess.Popen([sys.executable, "-c", SHORT.format(top=TOP, minute=minute), *words, node.work, node.log, "--", "sh", "-c", script],
+            self.process = subprocess.Popen([sys.executable, "-c", SHORT.format(top=TOP, minute=minute, moment=moment), *words, node.work, node.log, "--", "sh", "-c", script],
                                             stdin=subprocess.DEVNULL, stdout=out, stderr=out, env={**os.environ, "TOP": node.folder})
 
     def lines(self):
@@ -156,6 +156,30 @@ def failures(tally):
         add(tally, "the same, once builds succeed", gone and len(os.listdir(f"{node.work}/done")) == 16 - len(marks), driver.lines())
 
 
+def moment(tally):
+    """A build that failed is marked a moment later, and not at all if the driver is ended meanwhile, as by a host that stops."""
+    slow = 'trap "sleep 1; exit 1" TERM; echo > "$TOP/up"; while :; do sleep 0.1; done'
+    script = f'[ $PKGPATH = a/fails ] || {{ {slow}; }}; until [ -e "$TOP/up" ]; do sleep 0.05; done; echo > "$TOP/failed"; exit 2'
+    with node_alone() as node:
+        # builds are asked in this order whether a driver that ends waits for them
+        names = [node.post("a/slow"), node.post("a/fails")]
+        driver = Driver(node, script, "-j", "2", "--grace", "60", moment=60)
+        ended = until(lambda: has_text(f"{node.folder}/failed"))
+        time.sleep(1)
+        before = os.listdir(f"{node.work}/failed")
+        status = driver.end()
+        left = [sorted(os.listdir(f"{node.work}/{part}")) for part in ("failed", "begun", "jobs")]
+        right = ended and (before, status, left) == ([], 128 + signal.SIGTERM, [[], [], sorted(names)])
+        add(tally, "a build that failed a moment before its driver is ended", right, before, status, left, driver.lines())
+        os.unlink(f"{node.work}/jobs/{names[0]}")
+        os.unlink(f"{node.folder}/failed")
+        driver = Driver(node, script, moment=2)
+        why = node.failed(names[1])
+        waited = os.path.getmtime(f"{node.work}/failed/{names[1]}") - os.path.getmtime(f"{node.folder}/failed") if why else 0
+        add(tally, "the same, tried again", bool(why) and why.startswith("a/fails: status 2\n") and waited > 1.9, why, waited, driver.lines())
+        driver.end()
+
+
 def no_pause(tally):
     """A lone member never pauses, and neither does one for which that is said: there is nobody else, or somebody looks after it."""
     for what, weights, words in (("a lone member", (1,), ()), ("--failures 0", (1, 1, 1), ("--failures", "0"))):
@@ -170,5 +194,5 @@ def no_pause(tally):
 
 
 def run(tally):
-    for one in (given_back, again_and_again, away, away_without_a_command, failures, no_pause):
+    for one in (given_back, again_and_again, away, away_without_a_command, failures, no_pause, moment):
         tally.case(one)

@@ -6,7 +6,6 @@ import re
 import shutil
 import signal
 import subprocess
-import sys
 import tempfile
 import time
 
@@ -15,10 +14,6 @@ from topics.nodes import beside
 from topics.played import (BUILD, LIMIT, SLOW, TREE, WRITE, Driver, Node, add, has_text, is_alive, laid, name_of, read, until,
                            without_seconds)
 from topics.tally import TESTS, TOP
-
-sys.path.insert(0, f"{TOP}/tools")
-
-from dpbn_tools.driver import endings  # noqa: E402
 
 
 def chain(tally):
@@ -217,7 +212,7 @@ def builds_that_misbehave(tally):
 
 
 def what_the_system_refuses(tally):
-    """What can't be written is reported, and tried again; a host that stops leaves no mark; a folder that was made anew ends it."""
+    """What can't be written is reported, and tried again; a folder that was made anew ends it."""
     with laid(BUILD) as (node, driver):
         # it has to be through with its start, which refuses such a folder
         node.take(node.post("z/first"))
@@ -241,8 +236,6 @@ def what_the_system_refuses(tally):
         add(tally, "a log that can't be written", told and until(lambda: os.listdir(f"{node.work}/build") == []), driver.lines())
         os.rename(f"{node.work}/elsewhere/logs", f"{node.work}/logs")
         add(tally, "the same once it can", bool(node.take(name)), driver.lines())
-    if not any(ended_just_before(tally) for _ in range(20)):
-        add(tally, "a build that is ended just before it", False, "this machine is too busy")
     with laid(SLOW, *PATIENT) as (node, driver):
         node.post("a/b")
         until(lambda: has_text(f"{node.folder}/pid"))
@@ -251,25 +244,6 @@ def what_the_system_refuses(tally):
         status = driver.process.wait(LIMIT)
         told = status, driver.lines()[-1], is_alive(node.folder, "pid")
         add(tally, "a work folder that was made anew", told == (1, f"build-jobs: {node.work} was taken away, or made anew", False), told)
-
-
-def ended_just_before(tally):
-    """Ends a build, and its driver a moment later, as a host that stops does. Returns whether it was a moment: on a busy machine the driver
-    may have reported the build before."""
-    with laid(SLOW, *PATIENT) as (node, driver):
-        name = node.post("a/b")
-        until(lambda: has_text(f"{node.folder}/pid"))
-        began = time.monotonic()
-        os.kill(int(read(f"{node.folder}/pid")), signal.SIGTERM)
-        time.sleep(0.3)
-        driver.process.send_signal(signal.SIGTERM)
-        was_late = time.monotonic() - began > 0.75 * endings.MOMENT
-        ended = driver.end()
-        left = os.listdir(f"{node.work}/failed"), os.listdir(f"{node.work}/jobs"), os.listdir(f"{node.work}/build")
-        right = (ended, left) == (143, ([], [name], []))
-        if right or not was_late:
-            add(tally, "a build that is ended just before it", right, (ended, left, driver.lines()))
-        return right or not was_late
 
 
 def what_is_no_job(tally):

@@ -367,6 +367,50 @@ def test_hosts_are_asked_in_turn_and_later_after_failures(monkeypatch):
     assert hosts.next([3], "z") == -1
 
 
+class Over:
+    """A command that has ended with this status."""
+
+    reads = -1
+
+    def __init__(self, number):
+        self.number = number
+
+    def poll(self):
+        return True
+
+    def is_gone(self):
+        return True
+
+    def result(self):
+        return f"exit {self.number} 1.0 synced"
+
+
+@pytest.mark.parametrize("number, waits", [(1, [False, False, True]), (0, [True, True, True])])
+def test_a_build_that_failed_is_marked_a_moment_later(tmp_path, monkeypatch, number, waits):
+    own, clock, gone_on = driver(tmp_path), [0.0], []
+    monkeypatch.setattr(healths.time, "monotonic", lambda: clock[0])
+    monkeypatch.setattr(own.endings, "go_on", gone_on.append)
+    build = Build(job(), 0)
+    build.state, build.command = builds.State.RUNNING, Over(number)
+    for clock[0], has_gone_on in zip((0.0, 0.24, 0.26), waits):
+        own.look_at_build(build)
+        assert bool(gone_on) is has_gone_on
+
+
+def test_a_driver_that_ends_asks_each_build(tmp_path, monkeypatch):
+    """One that failed a moment ago isn't marked, also if another one before it is waited for."""
+    own, marked = driver(tmp_path), []
+    monkeypatch.setattr(own.endings, "mark", lambda build: marked.append(str(build.job)))
+    slow, failed = Build(job("a/slow"), 0), Build(job("a/fails"), 1)
+    slow.state, slow.is_busy = builds.State.OVER, True
+    failed.state, failed.failed, failed.command = builds.State.OVER, "status 2", Over(2)
+    own.builds += [slow, failed]
+    # it waits for a second longer than that
+    own.asked.grace = -0.8
+    own.finish(True)
+    assert marked == [] and failed.dropped == "this driver ends"
+
+
 # ---- health
 
 @pytest.fixture

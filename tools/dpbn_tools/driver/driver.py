@@ -263,7 +263,7 @@ class Driver:
             elif time.monotonic() >= build.end_due and not build.is_told_stuck:
                 build.is_told_stuck = True
                 self.lines.tell(f"= a build that can't be ended goes on in {build.folder}")
-        if build.state is State.OVER and not build.is_busy:
+        if build.state is State.OVER and not build.is_busy and time.monotonic() >= build.due:
             self.check_posted(build)
             # one of an earlier run waits for its job
             if build.command or build.is_reused or build.dropped or build.job.name in self.jobs:
@@ -470,7 +470,8 @@ class Driver:
                 self.end(build, "this driver ends")
             build.due = 0.0
         end = time.monotonic() + self.asked.grace + 1
-        while time.monotonic() < end and any(self.is_wanted(build) for build in self.builds):
+        # each is asked, since one that failed is dropped by that
+        while time.monotonic() < end and any([self.is_wanted(build) for build in self.builds]):
             self.tasks.look()
             self.guarded("pushes", self.look_at_pushes)
             self.due.pop("builds", None)

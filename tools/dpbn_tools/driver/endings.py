@@ -15,8 +15,9 @@ from dpbn_tools.driver.reuse import Reuse
 from dpbn_tools.driver.tasks import Tasks
 from dpbn_tools.driver.times import Times
 
-# how long a build that failed isn't reported, in seconds: what ended it may be about to end this program, too, as when a host stops
-MOMENT = 1
+# how long a build that failed isn't reported, in seconds: what ended it may be about to end this program, too. A host that stops sends
+# its signal to all processes at once.
+MOMENT = 0.25
 # before what the system refused is tried again, in seconds
 PATIENCE = 5
 # how often is looked whether the files of a build are pushed, besides when one was, in seconds
@@ -42,7 +43,7 @@ class Endings:
 
     def has_ended(self, build: Build) -> None:
         ended = build.ended
-        build.state, build.over = State.OVER, time.monotonic()
+        build.state, build.over, build.due = State.OVER, time.monotonic(), 0.0
         is_good = bool(ended and ended.how == "exit" and ended.number == 0)
         if build.dropped == ENDS and is_good:
             # it was over before it was asked to end
