@@ -111,7 +111,7 @@ fn build_on<F: LogFolder, E: Write>(
         (F.gave folder.now me) (F.known folder.now me) (run_at tree.now weights.now place) me) }
 {
     let solo = build_from_start(rt, folder, tree, weights, site, me, place, err)?;
-    match answer_of(rt.alloc(), &solo, me) {
+    match last_answer(rt.alloc(), solo, me) {
         Ok(answer) => Ok(answer),
         Err(_) => Err(Refusal::memory()),
     }
@@ -286,6 +286,19 @@ fn run_on_log<'a, 'c, E: Write>(
     } else {
         Err(Refusal::memory())
     }
+}
+
+/// The line and status of the node in its last state. The node is dropped here, where no other value
+/// is.
+fn last_answer(
+    alloc: Global,
+    solo: Solo<'_, FileDisk, UdpPort<'_, HostRuntime>>,
+    me: u8,
+) -> Result<Answer, AllocError>
+    ensures { IfOk result (λ answer. IsLineWith me (letters_of solo.entry.node.node)
+        answer.text.items answer.status) }
+{
+    answer_of(alloc, &solo, me)
 }
 
 /// The node's line and status at the moment.

@@ -1,8 +1,9 @@
 //! The result of `dpbn node`.
-ghost use Rattle.std.specs.Prelude.{◌≡◌, ◌<◌, ◌≤◌, IfErr, IfOk, length, string_bytes, true};
+ghost use Rattle.std.specs.Prelude.{◌≡◌, ◌<◌, ◌≤◌, IfErr, IfOk, length, string_bytes};
 ghost use Rattle.dpbn_node.specs.Node.{HasRun, IsNodeText, IsShown, RefusesNode};
 ghost use Rattle.dpbn_node.specs.Runs.{AreGood, IsOfNode, RefusesStart, letters_of, run_at};
 ghost use Rattle.program_io.specs.NodeLine.{IsLineOf};
+ghost use Rattle.program_io.specs.Refusals.{memory_refusal};
 
 use crate::Telling;
 use crate::given::{Given, given_of_words};
@@ -93,7 +94,7 @@ fn run_on<F: LogFolder, E: Write>(
         &mut telling,
         err,
     )?;
-    match line_of(rt.alloc(), &solo, me) {
+    match last_line(rt.alloc(), solo, me) {
         Ok(line) => Ok(line),
         Err(_) => Err(Refusal::memory()),
     }
@@ -128,26 +129,44 @@ pub fn run_from_start<'a, 'c, F: LogFolder, E: Write>(
 {
     let begun = begin(rt, tree, &given.weights, folder, me, place)?;
     let Begun { start, port } = begun;
-    let mut solo = solo_on_log(rt, start, port, tree, &given.weights, dir, me)?;
-    if takes_all(rt.alloc(), &mut solo, &given.builds, turns, telling, err) {
+    let solo = solo_on_log(rt, start, port, tree, &given.weights, dir, me)?;
+    after_turns(rt.alloc(), solo, &given.builds, turns, telling, err)
+}
+
+/// The node after it took the given number of turns.
+///
+/// # Errors
+///
+/// Out of memory in too many turns.
+fn after_turns<'a, 'c, E: Write>(
+    alloc: Global,
+    solo: Solo<'a, FileDisk, UdpPort<'c, HostRuntime>>,
+    builds: &Packages,
+    turns: u32,
+    telling: &mut Telling,
+    err: &mut E,
+) -> Result<Solo<'a, FileDisk, UdpPort<'c, HostRuntime>>, Refusal>
+    ensures ran { IfOk result (λ after. HasRun builds.now turns solo.entry after) }
+    ensures refused { IfErr result (λ r. r ≡ memory_refusal) }
+{
+    let mut solo = solo;
+    if run(alloc, &mut solo, builds, turns, telling, err) == turns {
         Ok(solo)
     } else {
         Err(Refusal::memory())
     }
 }
 
-/// Takes the given number of turns, and returns whether all of them were taken.
-fn takes_all<E: Write>(
+/// The line of the node in its last state. The node is dropped here, where no other value is.
+fn last_line(
     alloc: Global,
-    solo: &mut Solo<'_, FileDisk, UdpPort<'_, HostRuntime>>,
-    builds: &Packages,
-    turns: u32,
-    telling: &mut Telling,
-    err: &mut E,
-) -> bool
-    ensures { result ≡ true → HasRun builds.now turns solo.old solo.new }
+    solo: Solo<'_, FileDisk, UdpPort<'_, HostRuntime>>,
+    me: u8,
+) -> Result<String, AllocError>
+    ensures { IfOk result (λ text.
+        IsLineOf me (letters_of solo.entry.node.node) (string_bytes text)) }
 {
-    run(alloc, solo, builds, turns, telling, err) == turns
+    line_of(alloc, &solo, me)
 }
 
 /// The line of the node in its present state.

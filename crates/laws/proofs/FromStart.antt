@@ -1,5 +1,5 @@
 -- A program's start and its turns are among the things that programs do.
-use Rattle.std.proofs.Common.{◌≡◌, ℕ, List, [], ◌∷◌, Option, refl, ap, subst}
+use Rattle.std.proofs.Common.{◌≡◌, ◌∙◌, ℕ, List, [], ◌∷◌, Option, refl, sym, ap, subst}
 use Rattle.std.specs.declared.rt.LibcRuntime.{LibcRuntime}
 use Rattle.dpbn_build.specs.Build.{HasBuilt}
 use Rattle.dpbn_build.specs.Turns.{Turn}
@@ -7,16 +7,16 @@ use Rattle.dpbn_node.specs.Node.{HasRun}
 use Rattle.dpbn_node.specs.Runs.{HasFlushed, IsOfNode, IsOpenedOn, RunOf, Running}
 use Rattle.faults.specs.Bytes.{Text}
 use Rattle.laws.proofs.BuildPrograms.{build_turns}
-use Rattle.laws.proofs.OneProgram.{IsThere, flushes, node_turns}
+use Rattle.laws.proofs.OneProgram.{IsThere, node_turns, port_changes}
 use Rattle.laws.specs.BuildPrograms.{BuildTurnsLead}
-use Rattle.laws.specs.FromStart.{HasBuiltFromStart, HasRunFromStart, IsDown, IsUp, once_started}
+use Rattle.laws.specs.FromStart.{HasBuiltFromStart, HasRunFromStart, IsDown, IsUp, OthersStayDown, with_running}
 use Rattle.laws.specs.Programs as run
 use Rattle.laws.specs.Programs.{ProgramTurnsLead, Programs, Rests, Runs}
 use Rattle.listing.specs.Tree.{Tree}
 use Rattle.lone_node.specs.Handed.{AllBuilds, Handed}
 use Rattle.lone_node.specs.Turns.{Outcome}
 use Rattle.node.specs.State.{LoggedNode}
-use Rattle.one_list.proofs.uses.HostedNodes.{set_there}
+use Rattle.one_list.proofs.uses.HostedNodes.{set_elsewhere, set_there}
 use Rattle.protocol.specs.Given.{Given}
 use Rattle.stable_record.specs.History.{History, seen}
 use Rattle.stable_record.specs.RealFile.{file_agrees, file_history}
@@ -55,9 +55,9 @@ module _ (tree : Tree) (weights : List ℕ) (k : ℕ) (known : History) (log : F
     (before : Running) (opened : IsOpenedOn log port tree weights k before) (first early : Programs)
     (down : IsDown tree weights first k known early) (agrees : file_agrees before.node.log.disk) where
   -- it is one of the things that programs do
-  starts : IsThere tree weights k first (once_started early k before) before
+  starts : IsThere tree weights k first (with_running early k before) before
   starts = record {
-    did = run.went_on early (once_started early k before) down.did (run.started (record {
+    did = run.went_on early (with_running early k before) down.did (run.started (record {
       number = k;
       file = seen known;
       rests = down.rests;
@@ -78,10 +78,11 @@ module _ (tree : Tree) (weights : List ℕ) (k : ℕ) (known : History) (log : F
 -- the end of the turns
 ends : (tree : Tree) (weights : List ℕ) (k : ℕ) (first late : Programs) (last new : Running)
     → IsThere tree weights k first late last → HasFlushed last new
-    → IsUp tree weights first k new late.offered
+    → IsUp tree weights first k new (with_running late k new)
 ends tree weights k first late last new there flushed =
-    let end = flushes tree weights k first late last new there flushed in
-    record { programs = end.0; did = end.1; runs = end.2; offered = end.3 }
+    let end = subst (λ (s : Running). IsThere tree weights k first (with_running late k s) s)
+    (sym flushed.same) (port_changes tree weights k first late last new.port there) in
+    record { did = end.did; runs = end.here }
 
 -- ---- the whole way
 
@@ -104,7 +105,7 @@ module _ (gave : Option Text → Type 0) (known : History) (of : RunOf) (me : �
                 ends of.tree of.weights me first late on.is.last after
                 (node_turns of.tree of.weights me first (AllBuilds builds) on.before
                 on.is.turned.answers on.is.last on.is.turned.led
-                (once_started early me on.before) late
+                (with_running early me on.before) late
                 (starts of.tree of.weights me known ran.begun.start.disk ran.begun.port
                 ran.has_begun.started.planned.looked on.before on.opened first early down
                 (agreed_node (AllBuilds builds) on.before on.is.turned.answers on.is.last
@@ -131,7 +132,7 @@ module _ (gave : Option Text → Type 0) (known : History) (of : RunOf) (me : �
             of_programs = λ first early late down agrees happened.
                 ends of.tree of.weights me first late on.is.last after
                 (build_turns of.tree of.weights me first on.before on.is.turned.turns on.is.last
-                on.is.turned.led (once_started early me on.before) late
+                on.is.turned.led (with_running early me on.before) late
                 (starts of.tree of.weights me known ran.begun.start.disk ran.begun.port
                 ran.has_begun.started.planned.looked on.before on.opened first early down
                 (agreed_build on.before on.is.turned.turns on.is.last on.is.turned.led
@@ -140,3 +141,11 @@ module _ (gave : Option Text → Type 0) (known : History) (of : RunOf) (me : �
           };
         };
       }
+
+-- ---- another member's start
+
+pub others_stay_down : OthersStayDown
+others_stay_down tree weights first late k j state known up other rests = record {
+  did = up.did;
+  rests = set_elsewhere late.places k j (Runs state) other ∙ rests;
+}

@@ -2,7 +2,7 @@
 ghost use Rattle.std.specs.Prelude.{◌≡◌, IfErr, IfOk, length};
 ghost use Rattle.dpbn_build.specs.Build.{RefusesBuildOn};
 ghost use Rattle.dpbn_node.specs.Runs.{IsOfNode, RefusesStart, run_at};
-ghost use Rattle.laws.specs.FromStart.{HasBuiltFromStart, HasRunFromStart};
+ghost use Rattle.laws.specs.FromStart.{HasBuiltFromStart, HasRunFromStart, OthersStayDown};
 
 use ballots::Weights;
 use dpbn_cli::Site;
@@ -18,8 +18,9 @@ use udp::UdpPort;
 /// `run_from_start` of crate `dpbn_node`.
 ///
 /// Suppose that in a run of programs this member's program was down, with the file that its log is
-/// known to have. Suppose also that each turn took only what was offered before in this run. Then
-/// the run goes on by the start and the turns, and the program runs there with the returned node.
+/// known to have, and that this file did what its history says. Suppose also that each turn took
+/// only what was offered before in this run. Then the run goes on by the start and the turns, and
+/// the program runs there with the returned node, among what others did meanwhile.
 ///
 /// # Errors
 ///
@@ -75,3 +76,9 @@ pub fn build_from_start<'a, 'c, F: LogFolder, E: Write>(
 {
     dpbn_build::build_from_start(rt, folder, tree, weights, site, me, place, err)
 }
+
+/// Once a member's program has started and taken its turns, a member whose program rested meanwhile
+/// is down in that run of programs. This is a premise of its own start, so it can start next.
+pub fn others_stay_down()
+    ensures { OthersStayDown }
+{}

@@ -16,7 +16,7 @@ mod reopening;
 mod turns;
 
 pub use crate::catching_up::what_is_missing_is_queued;
-pub use crate::from_start::{build_from_start, node_from_start};
+pub use crate::from_start::{build_from_start, node_from_start, others_stay_down};
 pub use crate::heard::turn_if_heard;
 pub use crate::on_hosts::{
     stopped_nodes_stay, turns_are_of_a_run, turns_leave_logs, vouched_turns_are_of_a_run,
