@@ -119,7 +119,8 @@ fn build_on<F: LogFolder, E: Write>(
 
 /// Starts the member's node at this place on its log in the folder, takes turns until the node is
 /// down or at rest, and returns it. `dpbn build` makes this call once it has read its files, and
-/// then prints the node's line.
+/// then prints the node's line. Of a node at rest the contract says that `--rest` was given, and
+/// that no job waits.
 ///
 /// # Errors
 ///
@@ -288,8 +289,8 @@ fn run_on_log<'a, 'c, E: Write>(
     }
 }
 
-/// The line and status of the node in its last state. The node is dropped here, where no other value
-/// is.
+/// The line and status of the node in its last state. The node is dropped here, where no other
+/// value is.
 fn last_answer(
     alloc: Global,
     solo: Solo<'_, FileDisk, UdpPort<'_, HostRuntime>>,

@@ -22,7 +22,8 @@ pub fn programs_make_a_world()
 {}
 
 /// The turns that `dpbn node` promises in its contract are among the things that programs do there,
-/// together with whatever the programs of other members do meanwhile.
+/// together with whatever the programs of other members do meanwhile, if the premises held in each
+/// turn.
 pub fn node_turns_are_of_programs()
     ensures { NodeTurnsAreOfPrograms }
 {}
@@ -40,7 +41,8 @@ pub fn exchanges_are_notices()
 {}
 
 /// Takes the turns of `dpbn build`, and returns whether the node is at its end. Then these turns,
-/// from the state that the node had to the one that it has, are among the things that programs do.
+/// from the state that the node had to the one that it has, are among the things that programs do,
+/// if the premises held in each turn.
 pub fn build_among_programs<E: Write>(
     rt: &HostRuntime,
     solo: &mut Solo<'_, FileDisk, UdpPort<'_, HostRuntime>>,
