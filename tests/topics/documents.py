@@ -8,7 +8,7 @@ import subprocess
 import sys
 from typing import Dict, Iterable, Iterator, List, Optional, Sequence, Set, Tuple
 
-from topics import edit_places, explained, tried_edits, warrants
+from topics import edit_places, explained, open_places, tried_edits, warrants
 from topics.tally import TESTS, TOP, Tally, contents
 
 sys.path.insert(0, f"{TOP}/tools")
@@ -232,6 +232,15 @@ def one_warrant(tally: Tally) -> None:
     tally.add("tests/run documents, samples of warrants", warrants.samples_problem())
 
 
+def what_opens(tally: Tally) -> None:
+    """Files, logs, sockets and nodes are opened in reviewed sources only."""
+    paths = sorted(glob.glob(f"{TOP}/crates/*/src/**/*.rt", recursive=True))
+    sources = {os.path.relpath(path, f"{TOP}/crates"): contents(path).decode() for path in paths}
+    for name, problem in open_places.problems(sources):
+        tally.add(f"crates, what names {name}", problem)
+    tally.add("tests/run documents, samples of what opens", open_places.samples_problem())
+
+
 def one_order(tally: Tally) -> None:
     """crates.txt is bottom up."""
     named = crates()
@@ -407,4 +416,5 @@ def run(tally: Tally) -> None:
     leaning(tally)
     places(tally)
     one_warrant(tally)
+    what_opens(tally)
     explained.run_documents(tally)
