@@ -7,6 +7,7 @@ use Rattle.cluster_turns.specs.Choice.{IsFirstOwn, IsOwnIf}
 use Rattle.turn_rules.specs.Own.{IsOwn}
 use Rattle.turn_rules.specs.Pending.{Pending, above_at, has_failed}
 use Rattle.turn_rules.specs.declared.fault.TurnFault.{TurnFault}
+use Rattle.turn_rules.specs.declared.fault.TurnFault.TheVariants.{Memory}
 use Rattle.node.specs.State.{LoggedNode}
 use Rattle.node.specs.Step.{Does}
 use Rattle.node.specs.declared.fault.NodeFault.{NodeFault}
@@ -53,29 +54,30 @@ module _ {D : Type 0} (nodes : List (LoggedNode D)) (p : Pending) where
         (own, own_here own is, part_at nodes k n stands up own r part)
 
     own_fault : (f : NodeFault)
-        → ((input : Input)
-        × IsOwn n.node.member (above_at p k)
-        (λ u. has_failed p u || list_any (λ v. v == u) others) (Some input))
         → ((own : Option Input)
         × IsOwn n.node.member (above_at p k)
         (λ u. has_failed p u || list_any (λ v. v == u) others) own
         × IsNoPart n own f)
         → IsOwnFault nodes p k (told f)
-    own_fault f due (own, is, inl memory) =
-        inl (ap told memory, (due.0, own_here (Some due.0) due.1))
-    own_fault f due (own, is, inr (input, some, refuses)) = elim (told_is f) [
-      | inl memory ↦ inl (
-        memory,
-        (input, subst (λ o. IsOwnIf here count p k (here k) o) some (own_here own is)),
-      )
-      | inr node ↦ inr (
-        input,
-        f,
-        node,
-        subst (λ o. IsOwnIf here count p k (here k) o) some (own_here own is),
-        record { node = n; stands = stands; up = up; refuses = refuses },
-      )
+    own_fault f (own, is, (input, some, why)) = elim why [
+      | inl memory ↦ no_memory (ap told memory)
+      | inr refuses ↦ elim (told_is f) [
+        | inl memory ↦ no_memory memory
+        | inr node ↦ inr (
+          input,
+          f,
+          node,
+          does,
+          record { node = n; stands = stands; up = up; refuses = refuses },
+        )
+      ]
     ]
+      where
+        does : IsOwnIf here count p k (here k) (Some input)
+        does = subst (λ o. IsOwnIf here count p k (here k) o) some (own_here own is)
+
+        no_memory : told f ≡ Memory → IsOwnFault nodes p k (told f)
+        no_memory memory = inl (memory, (input, does))
 
   -- ---- the results for a borrowed node that is unchanged
 
@@ -111,21 +113,14 @@ module _ {D : Type 0} (nodes : List (LoggedNode D)) (p : Pending) where
         )
 
     pub fault_lent : (f : NodeFault) (t : TurnFault) → t ≡ told f
-        → ((input : Input)
-        × IsOwn n.node.member above
-        (λ u. has_failed p u || list_any (λ v. v == u) others) (Some input))
         → ((own : Option Input)
         × IsOwn n.node.member above
         (λ u. has_failed p u || list_any (λ v. v == u) others) own
         × IsNoPart m own f)
         → IsOwnFault nodes p k t
-    fault_lent f t is_told due (own, is, part) =
+    fault_lent f t is_told (own, is, part) =
         subst (λ x. IsOwnFault nodes p k x) (sym is_told)
         (own_fault k n stands (up_here nodes k n stands some) others elsewhere f (
-          due.0,
-          subst (λ a. IsOwn n.node.member a
-              (λ u. has_failed p u || list_any (λ v. v == u) others) (Some due.0)) is_above due.1,
-        ) (
           own,
           subst (λ a. IsOwn n.node.member a
               (λ u. has_failed p u || list_any (λ v. v == u) others) own) is_above is,

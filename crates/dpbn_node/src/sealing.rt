@@ -1,5 +1,17 @@
 //! The key of a node's run, and which datagrams its port accepts.
-ghost use Rattle.std.specs.Prelude.{◌≡◌, ◌≢◌, IfErr, IfOk, None, Some, false, option_map, true};
+ghost use Rattle.std.specs.Prelude.{
+  ◌≡◌,
+  ◌≢◌,
+  ◌||◌,
+  IfErr,
+  IfOk,
+  None,
+  Some,
+  false,
+  is_some,
+  not,
+  option_map,
+};
 ghost use Rattle.wire.specs.declared.datagram.Datagram.{Datagram};
 ghost use Rattle.wire.specs.Spelling.{datagram_text};
 ghost use Rattle.faults.specs.Bytes.{begins_with};
@@ -67,10 +79,9 @@ impl Sealing {
     }
 
     /// Whether only members' datagrams are accepted, so that the statistics about members mean
-    /// something.
+    /// something: the port isn't open to everyone, or a key seals them.
     pub fn is_watched(&self) -> bool
-        ensures closed { self.now.is_open ≡ false → result ≡ true }
-        ensures sealed { self.now.key ≢ None → result ≡ true }
+        ensures { result ≡ (not self.now.is_open || is_some self.now.key) }
     {
         !self.is_open || self.key.is_some()
     }

@@ -49,7 +49,11 @@ module _ {D P : Type 0} (disk : Disk D)
     where
       by : (f : TurnFault) → IsTurnFault port old new handed (LeavesAtMost disk old new) f
           → HasOnlyAsked port handed old new (Err f)
-      by refused.Memory (chosen, is_chosen, same) = record { nothing = tt; node = same; asked = (chosen, is_chosen) }
+      by refused.Memory (asked, is_chosen, same) = record {
+        nothing = tt;
+        node = same;
+        asked = (Some (me_of old, asked), is_chosen);
+      }
       by (refused.Node f) (asked, is_chosen, r) = record {
         nothing = tt;
         node = ⊎_elim

@@ -69,7 +69,7 @@ module _ {D P : Type 0} (port : Port P) (handed : Handed)
   -- what a refused turn does
   pub refused_so : (f : TurnFault) → IsTurnFault port old new handed leaves f
       → IsRefusedTurn old new f
-  refused_so refused.Memory (chosen, is_chosen, same) = same
+  refused_so refused.Memory (asked, is_chosen, same) = same
   refused_so (refused.Node f) (asked, is_chosen, r) = ⊎_elim
       (λ takes. inr (record {
         asked = asked;

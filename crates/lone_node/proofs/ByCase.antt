@@ -2,15 +2,12 @@
 use Rattle.std.proofs.Common.{◌≡◌, ◌++◌, ℕ, List, [], ◌∷◌, Option, None, Some, Ok, length, refl, sym, ap, subst, ◌∙◌}
 use Rattle.std.proofs.lemmas.List.{append-nil}
 use Rattle.std.specs.Prelude.{is_some}
-use Rattle.turn_rules.proofs.SomeOwn.{some_choice}
 use Rattle.turn_rules.specs.Choice.{Chosen, Here, IsFirstDone, IsGivenOr, Made, Who, comes_to, first_answer, in_turn}
 use Rattle.faults.specs.Answers.{option_or}
 use Rattle.node.specs.Step.{Asked}
 use Rattle.turn_rules.specs.Calls.{came_by}
 use Rattle.datagram_ports.specs.Calls.{WentThrough}
 use Rattle.datagram_ports.specs.Kept.{Arrived, GoesOnBy}
-use Rattle.protocol.specs.Member.{IsMember}
-use Rattle.protocol.specs.State.{State}
 use Rattle.lone_node.specs.Handed.{Handed, IsChoiceBy}
 use Rattle.lone_node.specs.State.{SoloState, only}
 use Rattle.lone_node.specs.Turn.{IsChosen, IsVouchedFor, looked_for, received_by}
@@ -112,10 +109,3 @@ module _ {D P : Type 0} (port : Port P) (old new : SoloState D P) (handed : Hand
     pub by_done : (c : Chosen) → comes_to here came ≡ None → IsDoneHere c → Chooses c
     by_done c comes done = by_came c (subst (λ g. IsGivenOr g c (IsDoneHere c))
         (sym (ap (λ j. option_or j (comes_to here came)) no_answer ∙ comes)) done)
-
-    -- there is a choice
-    pub by_some : ((k : ℕ) (s : State) → here k ≡ Some s → IsMember s)
-        → (c : Chosen) × Chooses c
-    by_some are =
-        let some = some_choice here count old.pending made who came are in
-        (some.0, by_came some.0 some.1)

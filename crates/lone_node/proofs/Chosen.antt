@@ -1,5 +1,5 @@
 -- What was chosen is prepared, or there is a reason why it isn't.
-use Rattle.std.proofs.Common.{◌≡◌, ◌≢◌, ◌==◌, ℕ, Bool, true, false, [], Option, None, Some, Result, Ok, Err, IfErr, IfOk, Vec, length, if◌then◌else◌, refl, sym, ap, subst, ◌∙◌, inl, inr}
+use Rattle.std.proofs.Common.{◌≡◌, ◌≢◌, ℕ, [], Option, None, Some, Result, Ok, Err, IfErr, IfOk, Vec, length, refl, sym, ap, subst, ◌∙◌, inl, inr}
 use Rattle.std.specs.List.{range_with_len}
 use Rattle.std.specs.Prelude.{option_and_then, option_map}
 use Rattle.std.specs.declared.alloc.Global.{Global}
@@ -9,7 +9,7 @@ use Rattle.turn_rules.specs.declared.fault.TurnFault.{TurnFault}
 use Rattle.turn_rules.specs.declared.fault.TurnFault.TheVariants as refused
 use Rattle.node.specs.Calls.{left_by}
 use Rattle.node.specs.State.{LoggedNode, NodeState}
-use Rattle.node.specs.Step.{Comes, Does}
+use Rattle.node.specs.Step.{Asked, Comes, Does}
 use Rattle.node.specs.declared.fault.NodeFault.{NodeFault}
 use Rattle.node.specs.declared.fault.NodeFault.TheVariants as fault
 use Rattle.turn_rules.specs.CausedSteps.{IsNoPart, IsPart}
@@ -17,9 +17,8 @@ use Rattle.turn_rules.specs.declared.caused_step.CausedStep.{CausedStep}
 use Rattle.datagram_ports.specs.Kept.{Arrived}
 use Rattle.protocol.specs.Given.{Given}
 use Rattle.protocol.specs.Member.{IsMember}
-use Rattle.protocol.specs.State.{State}
 use Rattle.protocol.specs.declared.input.Input.{Input}
-use Rattle.lone_node.proofs.ByCase.{answer_here, by_answer, by_arrival, by_done, by_some}
+use Rattle.lone_node.proofs.ByCase.{answer_here, by_answer, by_arrival, by_done}
 use Rattle.lone_node.proofs.Each.{none_does_so, this_does_so}
 use Rattle.lone_node.proofs.Only.{in_range, in_turns, none_does, this_one_does}
 use Rattle.lone_node.proofs.Refused.{stays, told_is}
@@ -29,20 +28,6 @@ use Rattle.lone_node.specs.State.{SoloState, member_up, only}
 use Rattle.lone_node.specs.Turn.{IsChosen}
 use Rattle.lone_node.specs.inside.Turning.{HasChosen, HasCome, IsMade, IsNotTaken, told}
 use Rattle.datagram_ports.specs.declared.port.Port.{Ghosts as Port}
-
--- the node here has a valid member
-pub members_here : (n : NodeState) → IsMember n.member → (k : ℕ) (s : State) → only n k ≡ Some s
-    → IsMember s
-members_here n is k s at = by (k == n.member.me) n.stopped at
-  where
-    by : (b c : Bool) → (if b then (if c then None else Some n.member) else None) ≡ Some s
-        → IsMember s
-    by true true at = absurd (let no : ◌≡◌ {A = Option State} None (Some s) = at in cc)
-    by true false at =
-        let known : ◌≡◌ {A = Option State} (Some n.member) (Some s) = at in
-        let same : n.member ≡ s = cc in
-        subst IsMember same is
-    by false c at = absurd (let no : ◌≡◌ {A = Option State} None (Some s) = at in cc)
 
 -- what a receive returned
 abbrev pub came_of : Option (ℕ × Vec ℕ Global) → Arrived
@@ -127,7 +112,7 @@ module _ {D P : Type 0} (port : Port P) (old new : SoloState D P) (handed : Hand
       by : (o : Option Input) → Answer ≡ o → IsFault refused.Memory
       by None e = absurd (some e)
       by (Some input) e = (
-        Some (me, Does input),
+        Does input,
         by_answer port old new handed (me, Does input) (first_is input e) still,
         same,
       )
@@ -143,12 +128,11 @@ module _ {D P : Type 0} (port : Port P) (old new : SoloState D P) (handed : Hand
 
   module _ (none : IsPart old.node (Answer) None) (came : Arrived)
       (goes : HasCome port old.port new.port came) where
-    -- memory ran out, whatever the choice was
-    wants : new.node.node ≡ old.node.node → (f : TurnFault) → f ≡ refused.Memory → IsFault f
-    wants same f memory =
-        let some = by_some port old new handed (no_answer none) came goes
-        (members_here n is) in
-        subst IsFault (sym memory) (some.0, some.1, same)
+    -- memory ran out, and this was chosen
+    wants : new.node.node ≡ old.node.node → (asked : Asked)
+        → IsChosen port old new handed [] (Some (me, asked)) → (f : TurnFault)
+        → f ≡ refused.Memory → IsFault f
+    wants same asked chosen f memory = subst IsFault (sym memory) (asked, chosen, same)
 
     -- ---- what was received
 
@@ -174,15 +158,18 @@ module _ {D P : Type 0} (port : Port P) (old new : SoloState D P) (handed : Hand
         | inl memory ↦ no_memory memory
         | inr node ↦ subst IsFault (sym (t.tells ∙ node)) (
           Comes t.text,
-          by_arrival port old new handed (no_answer none) came goes (me, Comes t.text) t.comes,
+          comes,
           record { cause = inl takes; leaves = t.leaves },
         )
       ]
     ]
       where
+        comes : IsChosen port old new handed [] (Some (me, Comes t.text))
+        comes = by_arrival port old new handed (no_answer none) came goes (me, Comes t.text) t.comes
+
         no_memory : t.refusal ≡ fault.Memory → IsFault f
-        no_memory memory = wants (t.leaves ∙ ap (left_by n (Comes t.text)) memory) f
-            (t.tells ∙ ap told memory)
+        no_memory memory = wants (t.leaves ∙ ap (left_by n (Comes t.text)) memory) (Comes t.text)
+            comes f (t.tells ∙ ap told memory)
 
     -- ---- what it does on its initiative
 
@@ -225,16 +212,23 @@ module _ {D P : Type 0} (port : Port P) (old new : SoloState D P) (handed : Hand
           → ((done : Option Input) × (g : NodeFault) × DoesSo done × (f ≡ told g)
           × IsNoPart old.node done g)
           → IsFault f
-      done_fault same f (done, g, does_so, tells, inl memory) =
-          wants same f (tells ∙ ap told memory)
-      done_fault same f (done, g, does_so, tells, inr (input, some, takes)) = elim (told_is g) [
-        | inl memory ↦ wants same f (tells ∙ ap told memory)
-        | inr node ↦ subst IsFault (sym (tells ∙ node)) (
-          Does input,
-          done_chosen input (subst DoesSo some does_so),
-          record { cause = inl takes; leaves = same ∙ sym (stays n input g takes) },
-        )
+      done_fault same f (done, g, does_so, tells, (input, some, why)) = elim why [
+        | inl memory ↦ no_memory memory
+        | inr takes ↦ elim (told_is g) [
+          | inl memory ↦ no_memory memory
+          | inr node ↦ subst IsFault (sym (tells ∙ node)) (
+            Does input,
+            does,
+            record { cause = inl takes; leaves = same ∙ sym (stays n input g takes) },
+          )
+        ]
       ]
+        where
+          does : IsChosen port old new handed [] (Some (me, Does input))
+          does = done_chosen input (subst DoesSo some does_so)
+
+          no_memory : g ≡ fault.Memory → IsFault f
+          no_memory memory = wants same (Does input) does f (tells ∙ ap told memory)
 
       -- ---- the results for a node and a number that are equal to these
 

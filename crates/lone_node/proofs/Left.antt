@@ -43,7 +43,7 @@ left_is n asked (fault.Foreign f) = record { member = refl; notes = refl }
 module _ {D P : Type 0} (port : Port P) (old new : SoloState D P) (handed : Handed) where
   pub alike : (f : TurnFault) → IsTurnFault port old new handed (λ asked. ⊥) f
       → IsAlike old.node.node new.node.node
-  alike refused.Memory (chosen, is_chosen, same) = same_is old.node.node new.node.node same
+  alike refused.Memory (asked, is_chosen, same) = same_is old.node.node new.node.node same
   alike (refused.Node f) (asked, is_chosen, r) =
       subst (IsAlike old.node.node) (sym r.leaves) (left_is old.node.node asked f)
   alike (refused.Down k) (asked, is_chosen, me, tried, down, left) = absurd left

@@ -166,7 +166,7 @@ module _ {D P : Type 0} (port : Port P) (old mid new : SoloState D P) (handed : 
         → (f : TurnFault) → IsTakingFault mid.node new.node (note_in r.ready.step) f
         → IsTurnFault port old new handed leaves f
     refused_so still leaves left refused.Memory same =
-        (Some (me_of old, asked_by r.act), chosen_still still, same ∙ ap (λ n. n.node) has.same)
+        (asked_by r.act, chosen_still still, same ∙ ap (λ n. n.node) has.same)
     refused_so still leaves left (refused.Node g) (full, lacks, same) = (
       asked_by r.act,
       chosen_still still,

@@ -1,6 +1,5 @@
 -- Why a turn is refused, and what state that leaves.
 use Rattle.std.specs.Prelude.{◌≡◌, ◌⊎◌, ℕ, true, [], Some, Err}
-use Rattle.turn_rules.specs.Choice.{Chosen}
 use Rattle.turn_rules.specs.declared.fault.TurnFault.{TurnFault}
 use Rattle.turn_rules.specs.declared.fault.TurnFault.TheVariants.{Memory, Node, Down, NotSent, NotFresh}
 use Rattle.node.specs.Calls.{HasFilled, HasTried, left_by}
@@ -21,10 +20,10 @@ pub record IsRefusedBy {D : Type 0} (old new : LoggedNode D) (asked : Asked) (f 
   pub cause : Takes old.node asked (Err f) ⊎ ((f ≡ fault.Log log.Full) × HasFilled old asked)
   pub leaves : new.node ≡ left_by old.node asked f
 
--- Memory ran out, whatever the choice was, and the node is unchanged.
+-- Memory ran out although there is something to do, and the node is unchanged.
 abbrev pub WantsMemory : {D P : Type 0} → Port P → SoloState D P → SoloState D P → Handed → Type 0
 WantsMemory port old new handed =
-    (chosen : Chosen) × IsChosen port old new handed [] chosen
+    (asked : Asked) × IsChosen port old new handed [] (Some (me_of old, asked))
     × (new.node.node ≡ old.node.node)
 
 -- The node refused what was chosen.

@@ -1,14 +1,19 @@
 -- What a node does on its own initiative.
 use Rattle.std.proofs.Common.{◌≡◌, ◌<◌, ℕ, Option, None, Some, Err, length, refl, sym, ap, subst, ◌∙◌, inl, inr}
-use Rattle.std.specs.Prelude.{◌⊎◌}
-use Rattle.turn_rules.proofs.SomeOwn.{some_own_by}
+use Rattle.std.specs.Prelude.{◌⊎◌, option_and_then}
 use Rattle.turn_rules.specs.Own.{Barred, IsLeastFree, IsOwn, IsOwnBy, claim_of, renewed}
 use Rattle.node.specs.State.{LoggedNode}
 use Rattle.node.specs.Step.{Does, Takes}
 use Rattle.node.specs.declared.fault.NodeFault.{NodeFault}
 use Rattle.node.specs.declared.fault.NodeFault.TheVariants as fault
+use Rattle.ballots.specs.Support.{Support}
+use Rattle.ballots.specs.declared.claimer.Claimer.TheVariants as claimers
+use Rattle.claims.specs.declared.claim.Claim.{Claim}
+use Rattle.member.specs.OpenClaims.{open_of, progress_of_claimer}
+use Rattle.member.specs.declared.open_claim.OpenClaim as code
+use Rattle.turn_rules.specs.Scheduled.{goes_on, going_on}
 use Rattle.protocol.specs.Member.{IsMember}
-use Rattle.protocol.specs.State.{OpenClaim, State}
+use Rattle.protocol.specs.State.{OpenClaim, State, Value}
 use Rattle.protocol.specs.declared.input.Input.{Input}
 use Rattle.turn_rules.specs.CausedSteps.{IsNoPart}
 
@@ -54,22 +59,31 @@ own_of s m same above barred own input some is =
     subst (λ x. IsOwn x above barred (Some input)) same
     (subst (IsOwn m above barred) some is)
 
--- if memory runs out, there is something that it would have done, or nothing
-pub no_memory : {D : Type 0} (n : LoggedNode D) → IsMember n.node.member → (above : Option ℕ)
-    (barred : Barred) (f : NodeFault) → f ≡ fault.Memory
+-- memory runs out, and there is something that it would have done
+pub no_memory : {D : Type 0} (n : LoggedNode D) (above : Option ℕ) (barred : Barred) (f : NodeFault)
+    → f ≡ fault.Memory → ((input : Input) × IsOwn n.node.member above barred (Some input))
     → (own : Option Input) × IsOwn n.node.member above barred own × IsNoPart n own f
-no_memory n is above barred f memory =
-    let some = some_own_by n.node.member is n.node.member.claim above barred in
-    (some.0, some.1, inl memory)
+no_memory n above barred f memory (input, is) = (Some input, is, (input, refl, inl memory))
+
+-- a claim that waits for votes is renewed or nudged
+pub goes_on_voting : (s : State) (o : code.OpenClaim) → Some (open_of o) ≡ s.claim → (c : Claim)
+    (v : Value) (t : Support) → o.claimer ≡ claimers.Voting c v t → (above : Option ℕ)
+    → (input : Input) × (going_on above s ≡ Some input)
+goes_on_voting s o is c v t voting above = (
+  renewed s (open_of o) above,
+  subst (λ x. option_and_then (λ y. goes_on s y y.progress above) x
+      ≡ Some (renewed s (open_of o) above)) is
+      (ap (λ x. goes_on s (open_of o) (progress_of_claimer x) above) voting),
+)
 
 -- what it does is refused
 pub no_part : {D : Type 0} (n m : LoggedNode D) → m ≡ n → (input : Input) (f g : NodeFault)
     → f ≡ g → (g ≡ fault.Memory) ⊎ Takes n.node (Does input) (Err g)
     → IsNoPart m (Some input) f
-no_part n m same input f g told (inl memory) = inl (told ∙ memory)
-no_part n m same input f g told (inr takes) = inr (
+no_part n m same input f g told (inl memory) = (input, refl, inl (told ∙ memory))
+no_part n m same input f g told (inr takes) = (
   input,
   refl,
-  subst (λ x. Takes x.node (Does input) (Err f)) (sym same)
-      (subst (λ h. Takes n.node (Does input) (Err h)) (sym told) takes),
+  inr (subst (λ x. Takes x.node (Does input) (Err f)) (sym same)
+      (subst (λ h. Takes n.node (Does input) (Err h)) (sym told) takes)),
 )

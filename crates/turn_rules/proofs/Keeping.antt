@@ -2,7 +2,6 @@
 use Rattle.std.proofs.Common.{◌≡◌, ◌==◌, ◌++◌, ℕ, Bool, true, false, List, [], ◌∷◌, Option, None, Some, length, take, refl, ap, ◌∙◌, arith, if◌then◌else◌}
 use Rattle.std.proofs.lemmas.List.{take_all, take_at}
 use Rattle.std.specs.List.{list_any}
-use Rattle.claims.specs.declared.claim.Claim.{Claim}
 use Rattle.ballots.specs.InTheAgreement.{claim_of}
 use Rattle.ballots.specs.declared.claimer.Claimer.{Claimer}
 use Rattle.ballots.specs.declared.claimer.Claimer.TheVariants as claimers

@@ -1,5 +1,5 @@
 -- What is answered is made.
-use Rattle.std.proofs.Common.{◌≡◌, ◌∙◌, ℕ, Bool, true, false, true≢false, List, [], ◌∷◌, Option, None, Some, ap, option_and_then, option_map, refl, subst, sym}
+use Rattle.std.proofs.Common.{◌≡◌, ◌∙◌, ℕ, false, true≢false, List, [], ◌∷◌, Option, None, Some, ap, option_and_then, option_map, refl, subst, sym}
 use Rattle.std.specs.List.{range_with_len}
 use Rattle.faults.specs.Answers.{first_given, option_or}
 use Rattle.faults.specs.Bytes.{Text}
@@ -8,13 +8,12 @@ use Rattle.datagram_ports.specs.Kept.{Arrived}
 use Rattle.protocol.specs.Given.{Given}
 use Rattle.protocol.specs.State.{Building, Gathering, OpenClaim, Progress, State, Voting}
 use Rattle.protocol.specs.declared.input.Input.{Input}
-use Rattle.protocol.specs.declared.input.Input.TheVariants as inputs
 use Rattle.turn_rules.specs.Answering.{answer_if}
 use Rattle.turn_rules.specs.Choice.{Chosen, Here, IsDoneBy, IsDoneIf, IsFirstDone, IsGivenOr, Made, Who, answer_at, barred_at, comes_to, first_answer, in_turn}
 use Rattle.turn_rules.specs.Laws.{AnswersWhatIsMade, NothingMade, is_answer}
 use Rattle.turn_rules.specs.Own.{Barred, IsOwnBy, claim_of, renewed}
 use Rattle.turn_rules.specs.Pending.{Pending, above_at}
-use Rattle.turn_rules.specs.Scheduled.{asked_for, goes_on, going_on, scheduled}
+use Rattle.turn_rules.specs.Scheduled.{asked_for, goes_on, scheduled}
 use Rattle.turn_rules.specs.declared.initiative.Initiative.{Initiative}
 use Rattle.turn_rules.specs.declared.initiative.Initiative.TheVariants.{Own, Scheduled}
 use Rattle.turn_rules.specs.declared.wish.Wish.{Wish}

@@ -4,11 +4,10 @@ use Rattle.std.specs.Prelude.{option_map}
 use Rattle.std.proofs.lemmas.Bool.{cases_order}
 use Rattle.faults.specs.Answers.{option_or}
 use Rattle.node.specs.Step.{Does}
-use Rattle.datagram_ports.specs.Kept.{Arrived}
 use Rattle.protocol.specs.State.{OpenClaim, State}
 use Rattle.protocol.specs.declared.input.Input.{Input}
-use Rattle.turn_rules.specs.Choice.{Chosen, Here, IsDoneBy, IsDoneIf, IsDoneOr, IsFirstDone, IsGivenOr, Made, Who, comes_to, first_answer, in_turn}
-use Rattle.turn_rules.specs.Own.{Barred, IsLeastFree, IsOwn, IsOwnBy, claim_of}
+use Rattle.turn_rules.specs.Choice.{Chosen, Here, IsDoneBy, IsDoneIf, IsDoneOr, IsFirstDone, IsGivenOr, Who, comes_to, first_answer, in_turn}
+use Rattle.turn_rules.specs.Own.{Barred, IsLeastFree, IsOwnBy, claim_of}
 use Rattle.turn_rules.specs.Pending.{Pending}
 use Rattle.turn_rules.specs.Laws.{OnlyOneChoice}
 use Rattle.turn_rules.specs.declared.initiative.Initiative.{Initiative}

@@ -1,5 +1,5 @@
 -- There is a choice.
-use Rattle.std.proofs.Common.{◌≡◌, ◌<◌, ◌⊎◌, ℕ, zero, suc, Bool, true, false, List, [], ◌∷◌, Option, None, Some, length, refl, sym, ap, subst, ◌∙◌, inl, inr, arith}
+use Rattle.std.proofs.Common.{◌≡◌, ◌<◌, ◌⊎◌, ℕ, zero, suc, List, [], ◌∷◌, Option, None, Some, length, refl, sym, subst, ◌∙◌, inl, inr, arith}
 use Rattle.std.specs.Prelude.{option_map}
 use Rattle.std.proofs.lemmas.Bool.{cases_Bool, cases_eq, true≢false}
 use Rattle.engine.proofs.OneLetter.{only_one_letter}
@@ -8,13 +8,12 @@ use Rattle.engine.specs.State as engine
 use Rattle.engine.specs.declared.Letter.{Letter}
 use Rattle.engine.specs.declared.Letter.TheVariants as letters
 use Rattle.faults.specs.Answers.{option_or}
-use Rattle.datagram_ports.specs.Kept.{Arrived}
 use Rattle.protocol.specs.Member.{IsMember}
 use Rattle.protocol.specs.State.{OpenClaim, State, engine_of}
 use Rattle.protocol.specs.declared.input.Input.{Input}
 use Rattle.node.specs.Step.{Does}
 use Rattle.engine.specs.Division.{number_of}
-use Rattle.turn_rules.specs.Choice.{Chosen, Here, IsDoneBy, IsDoneIf, IsDoneOr, IsFirstDone, IsGivenOr, Made, Who, barred_at, comes_to, first_answer, in_turn}
+use Rattle.turn_rules.specs.Choice.{Chosen, Here, IsDoneBy, IsDoneIf, IsFirstDone, IsGivenOr, Who, barred_at, comes_to, first_answer, in_turn}
 use Rattle.turn_rules.specs.Laws.{SomeChoice}
 use Rattle.turn_rules.specs.Own.{Barred, IsFree, IsLeastFree, IsOwnBy, claim_of, is_barred, renewed}
 use Rattle.turn_rules.specs.Pending.{Pending, above_at}

@@ -22,7 +22,7 @@ IsPart n None (Some r) = ⊥
 IsPart n (Some input) None = ⊥
 IsPart n (Some input) (Some r) = IsCausedStep n (Does input) r
 
--- Memory ran out, or the node refuses its part.
+-- The node has a part, and memory ran out or it refuses that.
 abbrev pub IsNoPart : {D : Type 0} → LoggedNode D → Option Input → NodeFault → Type 0
 IsNoPart n own f =
-    (f ≡ Memory) ⊎ ((input : Input) × (own ≡ Some input) × Takes n.node (Does input) (Err f))
+    (input : Input) × (own ≡ Some input) × ((f ≡ Memory) ⊎ Takes n.node (Does input) (Err f))

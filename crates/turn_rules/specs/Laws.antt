@@ -1,5 +1,5 @@
 -- Laws of the choice.
-use Rattle.std.specs.Prelude.{◌≡◌, ◌<◌, ◌≤◌, ℕ, Bool, true, false, List, None, Some}
+use Rattle.std.specs.Prelude.{◌≡◌, ℕ, Bool, true, false, None, Some}
 use Rattle.datagram_ports.specs.Kept.{Arrived}
 use Rattle.node.specs.Step.{Does}
 use Rattle.protocol.specs.Given.{Given}

@@ -1,11 +1,10 @@
 -- What nays say about an open claim.
-use Rattle.std.specs.Prelude.{ℕ, max, List, Option, None, Some, Result, Ok, Err, unwrap_or, option_and_then, if◌then◌else◌}
+use Rattle.std.specs.Prelude.{ℕ, max, Option, None, Some, Result, Ok, Err, unwrap_or, if◌then◌else◌}
 use Rattle.std.specs.Str.{bytes_eq}
 use Rattle.claims.specs.Claims.{claim_below, claim_same}
 use Rattle.claims.specs.declared.claim.Claim.{Claim}
 use Rattle.ballots.specs.declared.message.Body.{Body}
 use Rattle.ballots.specs.declared.message.Body.TheVariants.{Nay}
-use Rattle.ballots.specs.declared.message.Message.{Message}
 use Rattle.faults.specs.Bytes.{Text}
 use Rattle.protocol.specs.Member.{claim_in}
 use Rattle.protocol.specs.State.{OpenClaim, State, Value, name_at}

@@ -1,5 +1,5 @@
 -- Restoring the state from before a node did something.
-use Rattle.std.specs.Prelude.{ℕ, length, take}
+use Rattle.std.specs.Prelude.{length, take}
 use Rattle.turn_rules.specs.Pending.{Pending}
 use Rattle.turn_rules.specs.declared.pending.Before.{Before}
 

@@ -38,9 +38,6 @@ pub fn own<D: Disk>(
         × IsOwn node.old.node.member above
         (λ u. has_failed pending.now u || list_any (λ v. v == u) elsewhere.now) own
         × IsNoPart node.new own f) }
-    ensures due { OnErr result ((own : Asks)
-        × IsOwn node.old.node.member above
-        (λ u. has_failed pending.now u || list_any (λ v. v == u) elsewhere.now) (Some own)) }
 {
     own_from(node, above, pending, elsewhere, 0)
 }
@@ -69,9 +66,6 @@ pub fn own_from<D: Disk>(
         × IsOwn node.old.node.member above
         (λ u. has_failed pending.now u || list_any (λ v. v == u) elsewhere.now) own
         × IsNoPart node.new own f) }
-    ensures due { OnErr result ((own : Asks)
-        × IsOwn node.old.node.member above
-        (λ u. has_failed pending.now u || list_any (λ v. v == u) elsewhere.now) (Some own)) }
 {
     match input_of(node.member(), above, pending, elsewhere, from)? {
         Some(input) => Ok(Some(make_ready(node, input)?)),

@@ -1,8 +1,9 @@
 //! What a node does for a scheduler.
-ghost use Rattle.std.specs.Prelude.{◌≡◌, ◌⊎◌, Err, IfErr, IfOk, false};
+ghost use Rattle.std.specs.Prelude.{◌≡◌, ◌⊎◌, Err, IfErr, IfOk, OnErr, Some, false};
 ghost use Rattle.turn_rules.specs.Scheduled.{asked_for, going_on, scheduled};
 ghost use Rattle.node.specs.Step.{Does, Takes};
 ghost use Rattle.node.specs.declared.fault.NodeFault.TheVariants.{Memory as out_of_memory};
+ghost use Rattle.protocol.specs.declared.input.Input.{Input as Asks};
 ghost use Rattle.turn_rules.specs.CausedSteps.{IsNoPart, IsPart, IsCausedStep};
 
 use crate::{CausedStep, Wish, make_ready, renewed};
@@ -17,7 +18,7 @@ use stable_record::Disk;
 ///
 /// # Errors
 ///
-/// `Memory`, or why the node refuses to do so.
+/// `Memory`, if there is something to do; or why the node refuses to do so.
 pub fn do_scheduled<D: Disk>(
     node: &mut Node<'_, D>,
     above: Option<u64>,
@@ -60,7 +61,7 @@ fn do_wish<D: Disk>(node: &mut Node<'_, D>, wish: Wish) -> Result<CausedStep, No
 ///
 /// # Errors
 ///
-/// `Memory`, or why the node opens no new claim.
+/// `Memory`, if there is something to do; or why the node opens no new claim.
 fn go_on<D: Disk>(
     node: &mut Node<'_, D>,
     above: Option<u64>,
@@ -78,7 +79,8 @@ fn go_on<D: Disk>(
 
 /// What the member does about its open claim, if anything.
 fn going_on(member: &Member<'_>, above: Option<u64>) -> Result<Option<Input>, Memory>
-    ensures { IfOk result (λ input. input ≡ going_on above member.now) }
+    ensures input { IfOk result (λ input. input ≡ going_on above member.now) }
+    ensures due { OnErr result ((input : Asks) × (going_on above member.now ≡ Some input)) }
 {
     let Some(open) = member.open_claim() else {
         return Ok(None);

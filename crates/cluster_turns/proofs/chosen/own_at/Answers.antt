@@ -33,7 +33,7 @@ returns-in-Err-clause-refused g c =
     c.as_slice-4.result.now c.as_slice-2.ensures.value c.as_slice-4.ensures.value
     c.open_elsewhere-elsewhere.ensures)
     c.above-above.result c.above-above.ensures c.in-Err.fault c.told.result c.told.ensures
-    c.in-Err.ensures.due c.in-Err.ensures.refused
+    c.in-Err.ensures.refused
 
 pub own_from-requires-clause-below : goal.own_from-requires-clause-below
 own_from-requires-clause-below g c =
