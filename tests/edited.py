@@ -5,6 +5,7 @@ from typing import Dict, List, NamedTuple, Optional, Set, Tuple
 # the start of a function, and of what holds functions
 FUNCTION = re.compile(r"^ *(?:pub(?:\([a-z]+\))? +)?(?:(?:const|unsafe|ghost) +)*fn +(\w+)")
 VERDICT = re.compile(r"fn (\S+): (.*)")
+UNANSWERED = re.compile(r"no proof: expected answers in \./proofs/(\S+)/\w+\.antt; `search` did not prove `([^`]+)`")
 ERROR = re.compile(r"\./proofs/(\S+)/\w+\.antt:\d+:\d+: error: `([^`]+)`")
 
 
@@ -97,6 +98,11 @@ def is_of(function: str, crate: str, place: Place) -> bool:
     return function.startswith(f"{module}::") and place.name in function[len(module):].split("::")
 
 
+def is_open_itself(verdict: str) -> bool:
+    """Whether a function has an open goal, and doesn't only call one that isn't proved."""
+    return verdict == "not proved" or bool(UNANSWERED.match(verdict)) and "it calls" not in verdict
+
+
 def verdicts(said: List[str], crate: str, chosen: Dict[str, Set[Place]]) -> Dict[str, Optional[bool]]:
     """Whether a check refused each edit: yes if one of its functions isn't proved by itself, no if all are proved, and nothing if
     that isn't known: the function wasn't judged, or calls one that isn't proved."""
@@ -104,7 +110,7 @@ def verdicts(said: List[str], crate: str, chosen: Dict[str, Set[Place]]) -> Dict
     judged = [(it[1], it[2]) for it in map(VERDICT.match, said) if it]
     for edit, places in chosen.items():
         own = [verdict for function, verdict in judged if any(is_of(function, crate, place) for place in places)]
-        if "not proved" in own:
+        if any(map(is_open_itself, own)):
             found[edit] = True
         else:
             found[edit] = False if own and all(it == "proved" for it in own) else None
@@ -114,7 +120,7 @@ def verdicts(said: List[str], crate: str, chosen: Dict[str, Set[Place]]) -> Dict
 def reason_of(said: List[str], places: Set[Place]) -> str:
     """The first goal that is open in one of these functions."""
     for line in said:
-        found = ERROR.match(line)
+        found = ERROR.match(line) or UNANSWERED.search(line)
         if found and any(found[1].startswith(place.module) and place.name in found[1].split("/") for place in places):
             return f"the goal {found[2]} is open"
     return "it isn't proved"

@@ -63,18 +63,22 @@ fn names::a::Name::copy: proved
 fn names::a::fn::Name::write::any: not proved
 fn names::a::Name::write: no proof: it calls `names::a::fn::Name::write::any`, which is not proved
 fn names::b::Name::other: no proof: it calls `names::a::Name::stem`, which is not proved
+fn names::b::copies: no proof: expected answers in ./proofs/b/copies/Answers.antt; `search` did not prove `loop-preserved`
+fn names::b::both: no proof: expected answers in ./proofs/b/both/Answers.antt; `search` did not prove `returns`; it calls `names::b::copies`
 """.splitlines()
 
 
 def test_verdicts():
-    """Refused, proved, unknown since a callee isn't proved, refused in a closure, and not judged at all."""
+    """Refused, proved, unknown since a callee isn't proved, refused in a closure or without answers, and not judged at all."""
     chosen = {name: {Place("a", name)} for name in ("stem", "copy", "is_short", "write", "gone")}
     wanted = {"stem": True, "copy": False, "is_short": None, "write": True, "gone": None}
     assert edited.verdicts(SAID, "names", chosen) == wanted
-    assert edited.verdicts(SAID, "names", {"other": {Place("b", "other")}}) == {"other": None}
+    chosen = {name: {Place("b", name)} for name in ("other", "copies", "both")}
+    assert edited.verdicts(SAID, "names", chosen) == {"other": None, "copies": True, "both": None}
 
 
 def test_reasons():
     """The goal that is open, if the check says which."""
     assert edited.reason_of(SAID, {Place("a", "stem")}) == "the goal returns-clause-ok is open"
+    assert edited.reason_of(SAID, {Place("b", "copies")}) == "the goal loop-preserved is open"
     assert edited.reason_of(SAID, {Place("a", "write")}) == "it isn't proved"

@@ -16,7 +16,7 @@ use Rattle.cluster_turns.specs.State.{ClusterState}
 use Rattle.cluster_turns.specs.Turn.{WentDown}
 use Rattle.check_turns.specs.Reopened.{IsLeftOf}
 
--- what contracts see of a disk in memory that fails as it is told
+-- what contracts see of a disk in memory whose calls can be made to fail
 abbrev pub fault_disk : Disk FaultDisk
 fault_disk = record {
   history = history_of;

@@ -1,5 +1,5 @@
 -- A turn, seen by the calls of its port.
-use Rattle.std.proofs.Common.{◌≡◌, ℕ, List, [], ◌++◌, Option, None, Some, Result, Ok, Err, length, map, refl}
+use Rattle.std.proofs.Common.{◌≡◌, List, [], ◌++◌, Option, None, Some, Result, Ok, Err, length, map, refl}
 use Rattle.turn_rules.specs.declared.fault.TurnFault.{TurnFault}
 use Rattle.protocol.specs.Given.{Given}
 use Rattle.protocol.specs.declared.event.Event as declared

@@ -19,7 +19,6 @@ use Rattle.turn_rules.specs.Offered.{parcels_from}
 use Rattle.datagram_ports.specs.Kept.{GoesOnBy}
 use Rattle.protocol.specs.State.{Value}
 use Rattle.stable_record.specs.Faults.{HasRisen}
-use Rattle.stable_record.specs.History.{History}
 use Rattle.stable_record.specs.declared.log.Log.{Log}
 use Rattle.stable_record.specs.declared.log_fault.LogFault.TheVariants as log
 use Rattle.cluster_turns.proofs.AnyCase.{moved_in_any, stopped_in_any}

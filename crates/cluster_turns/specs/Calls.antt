@@ -23,8 +23,8 @@ with_calls c calls = record {
   port = calls;
 }
 
--- the calls of a turn, seen as a port: it returned what their receives did, and was offered what
--- their sends offered
+-- The calls of a turn, seen as a port. It returned what their receives did, and was offered what
+-- their sends offered. No definition reads its other members.
 abbrev pub calls_as_port : Port TurnCalls
 calls_as_port = record {
   given = given_in;

@@ -7,5 +7,5 @@ mod MadeAnswers
 mod Offerings
 mod OneChoice
 pub mod Owned
-pub mod SomeOwn
+mod SomeOwn
 mod Waiting

@@ -17,7 +17,7 @@ use Rattle.node.specs.State.{LoggedNode}
 use Rattle.node.specs.Step.{IsAsked, ReadyStep, after, note_in, sends_in, taken_by}
 use Rattle.node.specs.declared.fault.NodeFault.{NodeFault}
 use Rattle.node.specs.declared.fault.NodeFault.TheVariants as fault
-use Rattle.turn_rules.specs.Calls.{TurnCalls, calls_of, no_calls, offered_in}
+use Rattle.turn_rules.specs.Calls.{TurnCalls, calls_of, no_calls}
 use Rattle.turn_rules.specs.Offered.{Answered, parcels_from, sends_of}
 use Rattle.datagram_ports.specs.Calls.{WentThrough}
 use Rattle.datagram_ports.specs.Kept.{Arrived, GoesOnBy}
