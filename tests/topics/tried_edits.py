@@ -120,7 +120,8 @@ def goes_on(tally):
         last = edits[-1]
         open(f"{folder}/{last}", "w").close()
         process, end = called(folder, BELOW), time.monotonic() + 240
-        while not lines_in(f"{folder}/hangs") and time.monotonic() < end:
+        # until the last edit hangs, and what was said of the others is written down
+        while not (lines_in(f"{folder}/hangs") and len(lines_in(f"{folder}/progress")) == len(edits) - 1) and time.monotonic() < end:
             time.sleep(0.02)
         process.send_signal(signal.SIGTERM)
         lines, status = ended(process)
