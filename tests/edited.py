@@ -7,6 +7,7 @@ FUNCTION = re.compile(r"^ *(?:pub(?:\([a-z]+\))? +)?(?:(?:const|unsafe|ghost) +)
 VERDICT = re.compile(r"fn (\S+): (.*)")
 UNANSWERED = re.compile(r"no proof: expected answers in \./proofs/(\S+)/\w+\.antt; `search` did not prove `([^`]+)`")
 ERROR = re.compile(r"\./proofs/(\S+)/\w+\.antt:\d+:\d+: error: `([^`]+)`")
+LEMMA = re.compile(r"\./proofs/(\S+)\.antt:\d+:\d+: error: ")
 
 
 class Pair(NamedTuple):
@@ -115,6 +116,14 @@ def verdicts(said: List[str], crate: str, chosen: Dict[str, Set[Place]]) -> Dict
         else:
             found[edit] = False if own and all(it == "proved" for it in own) else None
     return found
+
+
+def open_in(line: str) -> Optional[str]:
+    """What a line of a check says isn't proved, and not only since something else isn't: a function, or a module of lemmas."""
+    verdict, lemma = VERDICT.match(line), LEMMA.match(line)
+    if verdict and is_open_itself(verdict[2]):
+        return verdict[1]
+    return lemma[1] if lemma else None
 
 
 def reason_of(said: List[str], places: Set[Place]) -> str:

@@ -1,9 +1,11 @@
 """The record of the wrong bodies that the gate doesn't try (tests/wrong-bodies). For each crate it has the sources and the kit with which
 they were tried, how many there were, and how many were refused."""
+import contextlib
+import fcntl
 import os
 import re
 import subprocess
-from typing import Dict, List, Tuple
+from typing import Dict, Iterator, List, Tuple
 
 import sources
 
@@ -54,6 +56,22 @@ def write(lines: Dict[str, str]) -> None:
     with open(f"{TRIED}.new", "w") as file:
         file.write(HEAD + "".join(f"{lines[crate]}\n" for crate in sorted(lines)))
     os.replace(f"{TRIED}.new", TRIED)
+
+
+@contextlib.contextmanager
+def changing() -> Iterator[Dict[str, str]]:
+    """The lines that are written down, by crate. The caller may change them, and then they are written down again. Another process
+    that wants to change them waits."""
+    folder = os.open(os.path.dirname(TRIED), os.O_RDONLY)
+    try:
+        fcntl.flock(folder, fcntl.LOCK_EX)
+        lines = read()
+        before = dict(lines)
+        yield lines
+        if lines != before:
+            write(lines)
+    finally:
+        os.close(folder)
 
 
 def is_tried(crate: str, line: str) -> bool:

@@ -593,13 +593,14 @@ TWO = "a/b.FULLPKGNAME=b-1\na/c.FULLPKGNAME=c-1\n"
 
 
 def rests_behind_all_jobs(tally):
-    """A node whose open claim is answered, while the other one of its two jobs is built still, comes to rest after that one."""
+    """A node whose open claim is answered, while the other one of its two jobs is built still, comes to rest after that one. It waits longer
+    than the time after which a node ends since nothing moves: a rest for each member, --takeover and 5 s."""
     name = "two jobs, and a rest"
-    with lone(TWO, "--jobs", "2", "--rest", "1") as host:
+    with lone(TWO, "--jobs", "2", "--rest", "1", "--takeover", "1") as host:
         first, second = host.job("a/b"), host.job("a/c")
         host.hand_in("done", second, b'{"a/c":[]}')
         held = host.shows(I=1, Q=1)
-        time.sleep(4)
+        time.sleep(9)
         check(tally, f"{name}, while one is built", held and host.node.poll() is None, host.node.poll(), last_of(host))
         host.hand_in("done", first, b'{"a/b":[]}')
         until(lambda: host.node.poll() is not None)

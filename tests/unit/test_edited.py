@@ -77,6 +77,13 @@ def test_verdicts():
     assert edited.verdicts(SAID, "names", chosen) == {"other": None, "copies": True, "both": None}
 
 
+def test_open_in_a_line():
+    """A function with an open goal, or a module of lemmas that doesn't hold; not a function that only calls one."""
+    lines = [SAID[1], SAID[2], SAID[3], SAID[7], "./proofs/Sums.antt:12:3: error: this isn't equal", "./specs/Sums.antt:12:3: error: no such name"]
+    wanted = ["names::a::Name::stem", None, None, "names::b::copies", "Sums", None]
+    assert [edited.open_in(it) for it in lines] == wanted
+
+
 def test_reasons():
     """The goal that is open, if the check says which."""
     assert edited.reason_of(SAID, {Place("a", "stem")}) == "the goal returns-clause-ok is open"
