@@ -59,19 +59,25 @@ def write(lines: Dict[str, str]) -> None:
 
 
 @contextlib.contextmanager
-def changing() -> Iterator[Dict[str, str]]:
-    """The lines that are written down, by crate. The caller may change them, and then they are written down again. Another process
-    that wants to change them waits."""
-    folder = os.open(os.path.dirname(TRIED), os.O_RDONLY)
+def locked(path: str) -> Iterator[None]:
+    """Another process that wants to change this file, or one beside it, waits meanwhile."""
+    folder = os.open(os.path.dirname(path), os.O_RDONLY)
     try:
         fcntl.flock(folder, fcntl.LOCK_EX)
+        yield
+    finally:
+        os.close(folder)
+
+
+@contextlib.contextmanager
+def changing() -> Iterator[Dict[str, str]]:
+    """The lines that are written down, by crate. The caller may change them, and then they are written down again."""
+    with locked(TRIED):
         lines = read()
         before = dict(lines)
         yield lines
         if lines != before:
             write(lines)
-    finally:
-        os.close(folder)
 
 
 def is_tried(crate: str, line: str) -> bool:

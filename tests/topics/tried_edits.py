@@ -115,7 +115,8 @@ def goes_on(tally):
         os.unlink(f"{folder}/{first}")
         lines, status = ended(called(folder, BELOW))
         right = lines[-1] == f"{len(edits)} passed, 0 failed" and status == 0 and len(lines_in(f"{folder}/tried")) == len(edits) + 2
-        tally.add("the same, gone on with", "" if right and tried.is_tried(BELOW, lines_in(f"{folder}/lines")[-1]) else seen(lines))
+        is_whole = tried.is_tried(BELOW, lines_in(f"{folder}/lines")[-1]) and not lines_in(f"{folder}/progress")
+        tally.add("the same, gone on with", "" if right and is_whole else seen(lines))
     with played_kit() as folder:
         last = edits[-1]
         open(f"{folder}/{last}", "w").close()
